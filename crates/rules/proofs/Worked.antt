@@ -1,0 +1,133 @@
+-- Document 01, 'Worked at the edges': the starred cases together, as one list under one claim, of the definitions;
+-- then lotlog's whole listing.
+-- Assumes nothing.
+use Prim.Native.Nat.{ℕ, zero, suc}
+use mathlib.Core.Path.{_≡_, refl}
+use mathlib.Core.Bool.{Bool, true, false}
+use mathlib.Core.List.{List, [], _∷_, _++_, map}
+use lib.IntN.{ℤ, pos}
+use lib.ListN.{length, getD, replicate}
+use Rattle.rules.specs.Refusals.{Answer, refused, given}
+use Rattle.rules.specs.Ascii.{ascii}
+use Rattle.rules.specs.Codes.{normal, tightened, letterOf, rowOf, rowFrom}
+use Rattle.rules.specs.Verdict.{Verdict, Decision, accepts, rejects, goesOn}
+use Rattle.rules.specs.Single.{Landing, Plan, landingOf, landing, boxAt, sizes, tablePlan, tighterAc}
+use Rattle.rules.specs.Sequential.{SequentialPlan, sequentialFrom, itemDecides}
+use Rattle.rules.specs.Variables.{acceptsReadings, withinSpread, margin, spread, sumZ, squaresZ}
+use Rattle.rules.specs.Severity.{onLot, onResubmitted, onOrder, onCorrective, step, figuresInRange}
+use Rattle.rules.specs.Reading.{severityRead, stayAfter, steadyIn, permissionIn, notAcceptedIn, runOf}
+use Rattle.rules.specs.Reading.{pointsOf, readLot, readOrder, readEvent}
+use Rattle.rules.specs.History.{ours, past, eventIn, eventOf}
+use Rattle.rules.specs.Entries.{next, closeTotal, judgeTotal}
+use Rattle.rules.specs.Log.{log, logFrom, loggedAs, lineOf, splitAt, droppingEmptyLast, allDigits, valueFrom}
+use Rattle.rules.specs.Log.{isNumber, digitsFrom, printed}
+
+-- the letter that gives the size, the size, and Ac
+landedAt : Landing → List ℕ
+landedAt l = l .letter ∷ getD sizes (l .letter) 0 ∷ l .ac ∷ []
+
+yesNo : Bool → ℕ
+yesNo true = 1
+yesNo false = 0
+
+-- a refusal is its number; a verdict is 1 or 0 and the items used
+verdictOf : Answer Verdict → List ℕ
+verdictOf (refused n p) = n ∷ []
+verdictOf (given v) = yesNo (v .accepted) ∷ v .used ∷ []
+
+decisionOf : Decision → List ℕ
+decisionOf accepts = 1 ∷ []
+decisionOf rejects = 0 ∷ []
+decisionOf goesOn = []
+
+-- hA 1.750, hR 2.247, g 0.0957, nt 98, At 9
+sequence : SequentialPlan
+sequence = record { hA = 1750; hR = 2247; g = 9570; nt = 98; atNt = 9 }
+
+readings : List ℤ → ℕ → ℕ → List ℕ
+readings xs u k = yesNo (acceptsReadings true (record { n = 3; k = k }) (pos u) xs) ∷ []
+
+ends : List ℕ → List ℕ
+ends h = severityRead (ours .permission) (past ours h (length h)) ∷ []
+
+-- what the definitions give at each starred case, in document 01's order
+pub computed : List (List ℕ)
+computed =
+    (letterOf 8 6 ∷ [])
+    ∷ (letterOf 9 6 ∷ [])
+    ∷ (letterOf 500 5 ∷ [])
+    ∷ (letterOf 501 5 ∷ [])
+    ∷ landedAt (landingOf normal 9 10)
+    ∷ landedAt (landingOf normal 11 9)
+    ∷ landedAt (landingOf tightened 11 9)
+    ∷ landedAt (landingOf normal 1 15)
+    ∷ landedAt (landingOf tightened 2 15)
+    ∷ landedAt (landingOf normal 15 0)
+    ∷ verdictOf (sequentialFrom sequence false 0 0 (replicate 19 0))
+    ∷ verdictOf (sequentialFrom sequence false 0 0 (replicate 18 0))
+    ∷ verdictOf (sequentialFrom sequence false 0 0 (replicate 3 1))
+    ∷ decisionOf (itemDecides sequence 98 9)
+    ∷ decisionOf (itemDecides sequence 98 10)
+    ∷ readings (pos 10 ∷ pos 12 ∷ pos 14 ∷ []) 20 4000
+    ∷ readings (pos 10 ∷ pos 12 ∷ pos 14 ∷ []) 19 3500
+    ∷ readings (pos 10 ∷ pos 12 ∷ pos 14 ∷ []) 19 3501
+    ∷ readings (pos 10 ∷ pos 12 ∷ pos 14 ∷ []) 11 1
+    ∷ readings (pos 20 ∷ pos 20 ∷ pos 20 ∷ []) 20 4000
+    ∷ ends (3 ∷ 0 ∷ 0 ∷ 0 ∷ 3 ∷ [])
+    ∷ ends (3 ∷ 0 ∷ 0 ∷ 0 ∷ 0 ∷ 3 ∷ [])
+    ∷ ends (5 ∷ 7 ∷ replicate 10 0)
+    ∷ ends (5 ∷ 7 ∷ replicate 9 0)
+    ∷ []
+
+-- what document 01 says
+pub said : List (List ℕ)
+said =
+    (1 ∷ [])
+    ∷ (2 ∷ [])
+    ∷ (7 ∷ [])
+    ∷ (8 ∷ [])
+    ∷ (10 ∷ 200 ∷ 3 ∷ [])
+    ∷ (9 ∷ 125 ∷ 5 ∷ [])
+    ∷ (9 ∷ 125 ∷ 3 ∷ [])
+    ∷ (13 ∷ 800 ∷ 0 ∷ [])
+    ∷ (16 ∷ 3150 ∷ 1 ∷ [])
+    ∷ (2 ∷ 5 ∷ 1 ∷ [])
+    ∷ (1 ∷ 19 ∷ [])
+    ∷ (7 ∷ [])
+    ∷ (0 ∷ 3 ∷ [])
+    ∷ (1 ∷ [])
+    ∷ (0 ∷ [])
+    ∷ (1 ∷ [])
+    ∷ (1 ∷ [])
+    ∷ (0 ∷ [])
+    ∷ (0 ∷ [])
+    ∷ (1 ∷ [])
+    ∷ (1 ∷ [])
+    ∷ (0 ∷ [])
+    ∷ (2 ∷ [])
+    ∷ (0 ∷ [])
+    ∷ []
+
+-- The starred cases, together.
+pub starred : computed ≡ said
+unfolding computed said landedAt yesNo verdictOf decisionOf sequence readings ends letterOf rowOf rowFrom landing
+    boxAt sequentialFrom itemDecides acceptsReadings withinSpread margin spread sumZ squaresZ stayAfter steadyIn
+    permissionIn notAcceptedIn runOf pointsOf readLot readOrder readEvent past eventIn eventOf
+starred = refl
+
+pub input : List ℕ
+input =
+    ascii "L 1000 5 10 1\nL 1000 5 10 2\nL 1000 5 10 3\nR 1000 5 10 0\nL 1000 5 10 4\nL 1000 5 10 1\nL 1 5 10 0\nC\n"
+
+pub output : List ℕ
+output =
+    ascii "no sev let n ac verdict next score\n"
+    ++ ascii "1 N J 80 2 accept N 3\n2 N J 80 2 accept N 0\n3 N J 80 2 reject N 0\n4 N J 80 2 accept N 0\n"
+    ++ ascii "5 N J 80 2 reject T 0\n6 T J 80 1 accept T 0\n7 refused 2\n8 refused 10\n"
+
+-- lotlog's "Output, whole".
+pub listing : log ours input ≡ output
+unfolding input output log logFrom loggedAs lineOf splitAt droppingEmptyLast allDigits valueFrom isNumber digitsFrom
+    printed next closeTotal judgeTotal tablePlan landing boxAt tighterAc letterOf rowOf rowFrom step onLot
+    onResubmitted onOrder onCorrective figuresInRange eventIn eventOf lib.Count.ones
+listing = refl

@@ -1,0 +1,218 @@
+-- Each public entry: the order of its refusals and its answer. Definitions only.
+use Prim.Native.Nat.{ℕ, zero, suc}
+use mathlib.Core.Bool.{Bool, true, false, cond, _&&_, not}
+use mathlib.Core.List.{List, [], _∷_, _++_}
+use lib.Dec.{leb, ltb, eqb}
+use lib.IntN.{ℤ}
+use lib.ListN.{getD, take}
+use Rattle.rules.specs.Refusals.{Answer, refused, given, Check, _gives_, firstOf, andThen, unknownForm}
+use Rattle.rules.specs.Refusals.{noSuchColumn, whileStopped, noPlan, illegalItem}
+use Rattle.rules.specs.Codes.{normal, reduced, stopped, countsItems, lotChecks, letterOf}
+use Rattle.rules.specs.Verdict.{Verdict, Judged}
+use Rattle.rules.specs.Single.{Plan, cutTo, tablePlan, tighterAc, singleVerdict, judgeItems}
+use Rattle.rules.specs.Staged.{StagedPlan, stagesOf, totalSize, judgeStages}
+use Rattle.rules.specs.Sequential.{SequentialPlan, judgeSequence}
+use Rattle.rules.specs.Variables.{VariablesPlan, Gauged, judgeReadings}
+use Rattle.rules.specs.Severity.{Lot, sampled, Event, lot, resubmitted, Record, step, inRange, counted}
+use Rattle.rules.specs.Severity.{singlePoints, stagedPoints}
+use Rattle.rules.specs.History.{Work, eventIn}
+use Rattle.rules.specs.Book.{Kind, reducedSingles, staged, sequential, variables, couldHold, Found, found}
+use Rattle.rules.specs.Book.{nothing, lookUp, checkBook, onSound, stagedOf, sequentialOf, variablesOf}
+use Rattle.rules.specs.Numbers.{numbersOf}
+
+-- The numbers of a plan as an entry of its kind, under any key.
+abbrev pub singleEntry : Plan → List ℕ
+singleEntry p = 0 ∷ 0 ∷ p .n ∷ p .ac ∷ []
+
+unfoldable pub pairsFrom : ℕ → ℕ → List ℕ → List ℕ → List ℕ
+pairsFrom zero i acs res = []
+pairsFrom (suc k) i acs res = getD acs i 0 ∷ getD res i 0 ∷ pairsFrom k (suc i) acs res
+
+abbrev pub stagedEntry : StagedPlan → List ℕ
+stagedEntry p =
+    0 ∷ 0 ∷ 0 ∷ p .stages ∷ (take (p .stages) (p .sizes) ++ pairsFrom (p .stages) 0 (p .acs) (p .res))
+
+abbrev pub sequentialEntry : SequentialPlan → List ℕ
+sequentialEntry p = 0 ∷ 0 ∷ 0 ∷ p .hA ∷ p .hR ∷ p .g ∷ p .nt ∷ p .atNt ∷ []
+
+abbrev pub variablesEntry : VariablesPlan → List ℕ
+variablesEntry p = 0 ∷ 0 ∷ 0 ∷ p .n ∷ p .k ∷ []
+
+-- A sample judged on a plan that is handed over: 6 for one that no sound book could hold.
+abbrev pub unlessHeld : Kind → List ℕ → Check
+unlessHeld k e = not (couldHold k e) gives noPlan
+
+unfoldable pub singleSample : ℕ → Plan → List ℕ → Answer Verdict
+singleSample column plan bytes =
+    firstOf ((ltb 25 column gives noSuchColumn) ∷ unlessHeld reducedSingles (singleEntry plan) ∷ [])
+    (judgeItems column plan bytes)
+
+unfoldable pub stagedSample : ℕ → StagedPlan → List ℕ → Answer Verdict
+stagedSample column plan bytes =
+    firstOf ((ltb 25 column gives noSuchColumn) ∷ unlessHeld staged (stagedEntry plan) ∷ [])
+    (judgeStages column plan bytes)
+
+unfoldable pub sequentialSample : SequentialPlan → List ℕ → Answer Verdict
+sequentialSample plan bytes =
+    firstOf (unlessHeld sequential (sequentialEntry plan) ∷ []) (judgeSequence plan bytes)
+
+unfoldable pub variablesSample : Bool → VariablesPlan → ℤ → List ℕ → Answer Gauged
+variablesSample upper plan limit bytes =
+    firstOf (unlessHeld variables (variablesEntry plan) ∷ []) (judgeReadings upper plan limit bytes)
+
+-- The lot that is asked about, under a severity.
+pub record Asked : Type 0 where
+  pub severity : ℕ
+  pub size : ℕ
+  pub level : ℕ
+  pub column : ℕ
+
+-- 1, 2, 3, 4 and 5, of every entry that judges or plans a lot
+abbrev pub askedChecks : Asked → List Check
+askedChecks q =
+    (ltb stopped (q .severity) gives unknownForm)
+    ∷ (lotChecks (q .size) (q .level) (q .column) ++ ((eqb (q .severity) stopped gives whileStopped) ∷ []))
+
+-- the sections of the book, in their order
+abbrev pub reducedSection : ℕ
+reducedSection = 0
+
+abbrev pub stagedSection : ℕ
+stagedSection = 1
+
+abbrev pub sequentialSection : ℕ
+sequentialSection = 2
+
+abbrev pub variablesSection : ℕ
+variablesSection = 3
+
+-- "A plan is looked up by severity (sections 2 to 4), Table 1 letter and column."
+abbrev pub lookedUp : ℕ → Asked → List ℕ → Found
+lookedUp section q book = lookUp section (q .severity) (letterOf (q .size) (q .level)) (q .column) (numbersOf book)
+
+-- "no book entry under the key"
+abbrev pub fromEntry : {A : Type 0} → Found → (List ℕ → Answer A) → Answer A
+fromEntry nothing plan = refused noPlan 0
+fromEntry (found e) plan = plan e
+
+-- "a staged total, nt or variables n above the lot size"
+abbrev pub unlessAbove : {A : Type 0} → ℕ → ℕ → A → Answer A
+unlessAbove lotSize needed plan = firstOf ((ltb lotSize needed gives noPlan) ∷ []) (given plan)
+
+-- "Reduced singles come from the plan book, by the Table 1 letter; a size at or above the lot is cut alike."
+abbrev pub reducedPlan : Asked → List ℕ → Plan
+reducedPlan q e =
+    record { letter = letterOf (q .size) (q .level); n = cutTo (q .size) (getD e 2 0); ac = getD e 3 0 }
+
+-- single_plan
+unfoldable pub singlePlan : Asked → List ℕ → Answer Plan
+singlePlan q book =
+    onSound (checkBook book)
+    (firstOf (askedChecks q)
+    (cond (eqb (q .severity) reduced)
+    (fromEntry (lookedUp reducedSection q book) (λ e. given (reducedPlan q e)))
+    (given (tablePlan (q .severity) (q .size) (q .level) (q .column)))))
+
+-- the plans that only a book supplies
+unfoldable pub stagedPlan : Asked → List ℕ → Answer StagedPlan
+stagedPlan q book =
+    onSound (checkBook book)
+    (firstOf (askedChecks q)
+    (fromEntry (lookedUp stagedSection q book)
+    (λ e. unlessAbove (q .size) (totalSize (stagesOf (stagedOf e))) (stagedOf e))))
+
+unfoldable pub sequentialPlan : Asked → List ℕ → Answer SequentialPlan
+sequentialPlan q book =
+    onSound (checkBook book)
+    (firstOf (askedChecks q)
+    (fromEntry (lookedUp sequentialSection q book) (λ e. unlessAbove (q .size) (sequentialOf e .nt) (sequentialOf e))))
+
+unfoldable pub variablesPlan : Asked → List ℕ → Answer VariablesPlan
+variablesPlan q book =
+    onSound (checkBook book)
+    (firstOf (askedChecks q)
+    (fromEntry (lookedUp variablesSection q book) (λ e. unlessAbove (q .size) (variablesOf e .n) (variablesOf e))))
+
+-- a plan, and then the verdict on it
+abbrev pub judgedOn : {P Outcome : Type 0} → (P → Answer Outcome) → P → Answer (Judged P Outcome)
+judgedOn judge plan = andThen (judge plan) (λ v. given (record { plan = plan; verdict = v }))
+
+-- judge_single, judge_staged, judge_sequential, judge_variables
+unfoldable pub judgeSingle : Asked → List ℕ → List ℕ → Answer (Judged Plan Verdict)
+judgeSingle q book sample = andThen (singlePlan q book) (judgedOn (λ plan. judgeItems (q .column) plan sample))
+
+unfoldable pub judgeStaged : Asked → List ℕ → List ℕ → Answer (Judged StagedPlan Verdict)
+judgeStaged q book sample = andThen (stagedPlan q book) (judgedOn (λ plan. judgeStages (q .column) plan sample))
+
+unfoldable pub judgeSequential : Asked → List ℕ → List ℕ → Answer (Judged SequentialPlan Verdict)
+judgeSequential q book sample = andThen (sequentialPlan q book) (judgedOn (λ plan. judgeSequence plan sample))
+
+unfoldable pub judgeVariables : Bool → Asked → List ℕ → ℤ → List ℕ → Answer (Judged VariablesPlan Gauged)
+judgeVariables upper q book limit readings =
+    andThen (variablesPlan q book) (judgedOn (λ plan. judgeReadings upper plan limit readings))
+
+-- "a record out of range"
+abbrev pub onRecord : {A : Type 0} → Record → Answer A → Answer A
+onRecord r answer = firstOf ((not (inRange r) gives unknownForm) ∷ []) answer
+
+-- next: what a history byte makes of a lent record
+unfoldable pub next : Work → Record → ℕ → Answer Record
+next w r byte = onRecord r (step r (eventIn w byte))
+
+-- A lot that was closed: how it was judged, and the next record.
+pub record Closed (Plan : Type 0) : Type 0 where
+  pub judged : Judged Plan Verdict
+  pub recordAfter : Record
+
+-- A lot that is offered to be closed: "Resubmitted lots are judged at the present severity and change nothing."
+pub record Offered : Type 0 where
+  pub again : Bool
+  pub size : ℕ
+  pub level : ℕ
+  pub column : ℕ
+
+abbrev pub askedOn : Record → Offered → Asked
+askedOn r o = record { severity = r .severity; size = o .size; level = o .level; column = o .column }
+
+abbrev pub eventFor : Offered → Lot → Event
+eventFor o counts = cond (o .again) resubmitted (lot sampled counts)
+
+-- how a single or a staged lot counts
+abbrev pub singleCounts : Record → Offered → Judged Plan Verdict → Lot
+singleCounts r o j =
+    counted (r .severity) (j .verdict .accepted)
+    (singlePoints (j .plan .ac) (tighterAc (j .plan .letter) (o .column)) (j .verdict .total))
+
+abbrev pub stagedCounts : Record → Offered → Judged StagedPlan Verdict → Lot
+stagedCounts r o j =
+    counted (r .severity) (j .verdict .accepted) (stagedPoints (j .verdict .stage) (j .verdict .stages))
+
+abbrev pub closedWith : {P : Type 0}
+    → Record → Offered → (Judged P Verdict → Lot) → Judged P Verdict → Answer (Closed P)
+closedWith r o counts j = andThen (step r (eventFor o (counts j))) (λ t. given (record { judged = j; recordAfter = t }))
+
+-- close_single, close_staged: "12 first", then a record out of range, then as the lot is judged at the present severity
+unfoldable pub closeSingle : Record → Offered → List ℕ → List ℕ → Answer (Closed Plan)
+closeSingle r o book sample =
+    onSound (checkBook book)
+    (onRecord r (andThen (judgeSingle (askedOn r o) book sample) (closedWith r o (singleCounts r o))))
+
+unfoldable pub closeStaged : Record → Offered → List ℕ → List ℕ → Answer (Closed StagedPlan)
+closeStaged r o book sample =
+    onSound (checkBook book)
+    (onRecord r (andThen (judgeStaged (askedOn r o) book sample) (closedWith r o (stagedCounts r o))))
+
+-- "It has no book, so a lot under reduced is refusal 6"; "in lotlog, total over n for columns 0 to 15"
+abbrev pub totalOn : ℕ → ℕ → Plan → Answer (Judged Plan Verdict)
+totalOn column total plan =
+    firstOf ((countsItems column && ltb (plan .n) total gives illegalItem) ∷ [])
+    (given (record { plan = plan; verdict = singleVerdict plan total }))
+
+unfoldable pub judgeTotal : Asked → ℕ → Answer (Judged Plan Verdict)
+judgeTotal q total =
+    firstOf (askedChecks q ++ ((eqb (q .severity) reduced gives noPlan) ∷ []))
+    (totalOn (q .column) total (tablePlan (q .severity) (q .size) (q .level) (q .column)))
+
+-- close_total
+unfoldable pub closeTotal : Record → Offered → ℕ → Answer (Closed Plan)
+closeTotal r o total = onRecord r (andThen (judgeTotal (askedOn r o) total) (closedWith r o (singleCounts r o)))

@@ -1,0 +1,82 @@
+-- Document 01, 'Severity record', a history of bytes: the list of its severities, and its refusals. Definitions only.
+use Prim.Native.Nat.{ℕ, zero, suc}
+use mathlib.Core.Bool.{Bool, true, false, cond, not}
+use mathlib.Core.List.{List, [], _∷_}
+use lib.Dec.{leb, ltb}
+use lib.ListN.{length, getD, set}
+use Rattle.rules.specs.Refusals.{Answer, refused, given, firstOf, _gives_, andThen, unknownForm, bufferShort}
+use Rattle.rules.specs.Severity.{Lot, addThree, addTwo, scoreZero, notAccepted, typed, Event, lot, resubmitted}
+use Rattle.rules.specs.Severity.{steadyIs, permissionIs, corrective, unknown, Record, fresh, step, inRange}
+use Rattle.rules.specs.Reading.{severityRead}
+
+-- "0, 1, 2 accepted (add 3, add 2, score 0), 3 not accepted, 4 resubmitted, 5 steady, 6 not steady, 7 permission, 8
+-- withdrawn, 9 corrective"
+abbrev pub byteEvents : List Event
+byteEvents =
+    lot typed addThree
+    ∷ lot typed addTwo
+    ∷ lot typed scoreZero
+    ∷ lot typed notAccepted
+    ∷ resubmitted
+    ∷ steadyIs true
+    ∷ steadyIs false
+    ∷ permissionIs true
+    ∷ permissionIs false
+    ∷ corrective
+    ∷ []
+
+unfoldable pub eventOf : ℕ → Event
+eventOf byte = getD byteEvents byte unknown
+
+-- The work that a history belongs to: the permission that its start names, and the bytes and line forms that it knows
+-- (a line's form is known by its byte).
+pub record Work : Type 0 where
+  pub permission : Bool
+  pub knows : ℕ → Bool
+
+-- "Starts: .. permission no"; every byte of the list is known
+abbrev pub ours : Work
+ours = record { permission = false; knows = λ byte. leb byte 9 }
+
+unfoldable pub eventIn : Work → ℕ → Event
+eventIn w byte = cond (w .knows byte) (eventOf byte) unknown
+
+-- a refusal of what stands at a place
+abbrev pub placed : {A : Type 0} → ℕ → Answer A → Answer A
+placed k (refused n p) = refused n k
+placed k (given a) = given a
+
+-- The record after events, newest first, from a record; or the refusal of the first bad one, "with its place counted
+-- from 0".
+unfoldable pub afterFrom : Record → List Event → Answer Record
+afterFrom r [] = given r
+afterFrom r (e ∷ es) = andThen (afterFrom r es) (λ t. placed (length es) (step t e))
+
+-- "From a fresh record"
+abbrev pub after : Bool → List Event → Answer Record
+after start es = afterFrom (fresh start) es
+
+-- the first i bytes of a history as events, newest first
+unfoldable pub past : Work → List ℕ → ℕ → List Event
+past w h zero = []
+past w h (suc i) = eventIn w (getD h i 0) ∷ past w h i
+
+abbrev pub afterHistory : Work → List ℕ → Answer Record
+afterHistory w h = after (w .permission) (past w h (length h))
+
+-- "a history reports its first bad byte (1, 5 or 10, with its place counted from 0) before 11"; how many severities
+-- are listed
+unfoldable pub listed : Work → List ℕ → ℕ → Answer ℕ
+listed w h room =
+    andThen (afterHistory w h) (λ r. firstOf ((ltb room (length h) gives bufferShort) ∷ []) (given (length h)))
+
+-- "the severity after each byte is written to a lent buffer, the rest of which stays": after the first i bytes, as
+-- the written reading finds it
+unfoldable pub written : Work → List ℕ → List ℕ → ℕ → List ℕ
+written w h out zero = out
+written w h out (suc i) = set (written w h out i) i (severityRead (w .permission) (past w h (suc i)))
+
+-- what the buffer then holds; a refusal "writes nothing"
+abbrev pub leftIn : Answer ℕ → Work → List ℕ → List ℕ → List ℕ
+leftIn (refused n k) w h out = out
+leftIn (given m) w h out = written w h out m

@@ -1,0 +1,17 @@
+pub mod Refusals
+pub mod Numbers
+pub mod Codes
+pub mod Verdict
+pub mod Single
+pub mod Staged
+pub mod Sequential
+pub mod Variables
+pub mod Screen
+pub mod Severity
+pub mod Reading
+pub mod History
+pub mod Book
+pub mod Entries
+pub mod Ascii
+pub mod Runs
+pub mod Log

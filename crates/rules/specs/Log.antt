@@ -1,0 +1,193 @@
+-- Document 01, lotlog: its output as a function from input bytes to output bytes. Definitions only.
+use Prim.Native.Nat.{ℕ, zero, suc, _+_, _*_, _-_, _/_, _%_, min}
+use mathlib.Core.Bool.{Bool, true, false, cond, _&&_, _||_, not}
+use mathlib.Core.List.{List, [], _∷_, _++_}
+use lib.Dec.{leb, ltb, eqb}
+use lib.ListN.{length, getD}
+use Rattle.rules.specs.Refusals.{Answer, refused, given, unknownForm}
+use Rattle.rules.specs.Ascii.{ascii}
+use Rattle.rules.specs.Single.{Plan}
+use Rattle.rules.specs.Severity.{Record, fresh, step}
+use Rattle.rules.specs.History.{Work}
+use Rattle.rules.specs.Entries.{Offered, Closed, closeTotal, next}
+
+-- the bytes of a stretch between separators, one stretch more than there are separators
+abbrev pub joinFirst : ℕ → List (List ℕ) → List (List ℕ)
+joinFirst b [] = (b ∷ []) ∷ []
+joinFirst b (p ∷ ps) = (b ∷ p) ∷ ps
+
+unfoldable pub splitAt : ℕ → List ℕ → List (List ℕ)
+splitAt separator [] = [] ∷ []
+splitAt separator (b ∷ bs) = cond (eqb b separator) ([] ∷ splitAt separator bs) (joinFirst b (splitAt separator bs))
+
+abbrev pub newline : ℕ
+newline = 10
+
+abbrev pub space : ℕ
+space = 32
+
+-- "The last line may lack its newline": nothing after the last newline is no line
+unfoldable pub droppingEmptyLast : List (List ℕ) → List (List ℕ)
+droppingEmptyLast [] = []
+droppingEmptyLast ([] ∷ []) = []
+droppingEmptyLast ([] ∷ (l ∷ ls)) = [] ∷ droppingEmptyLast (l ∷ ls)
+droppingEmptyLast ((b ∷ bs) ∷ ls) = (b ∷ bs) ∷ droppingEmptyLast ls
+
+abbrev pub linesOf : List ℕ → List (List ℕ)
+linesOf input = droppingEmptyLast (splitAt newline input)
+
+-- "Numbers are decimal without leading zeros, each at most 4,294,967,295"
+abbrev pub isDigit : ℕ → Bool
+isDigit b = leb 48 b && leb b 57
+
+unfoldable pub allDigits : List ℕ → Bool
+allDigits [] = true
+allDigits (b ∷ bs) = isDigit b && allDigits bs
+
+unfoldable pub valueFrom : ℕ → List ℕ → ℕ
+valueFrom v [] = v
+valueFrom v (b ∷ bs) = valueFrom (10 * v + (b - 48)) bs
+
+abbrev pub valueOf : List ℕ → ℕ
+valueOf field = valueFrom 0 field
+
+abbrev pub largestNumber : ℕ
+largestNumber = 4294967295
+
+unfoldable pub isNumber : List ℕ → Bool
+isNumber field =
+    not (eqb (length field) 0)
+    && (allDigits field
+    && ((eqb (length field) 1 || not (eqb (getD field 0 0) 48)) && leb (valueOf field) largestNumber))
+
+-- A line: a lot with its total, an order as its history byte, or nothing known.
+pub data Line : Type 0 where
+  lotLine : Offered → ℕ → Line
+  orderLine : ℕ → Line
+  unknownLine : Line
+
+-- "fields one space apart"
+abbrev pub fieldAt : List (List ℕ) → ℕ → List ℕ
+fieldAt fields i = getD fields i []
+
+-- is the first field this letter, with so many fields after it?
+abbrev pub opens : ℕ → ℕ → List (List ℕ) → Bool
+opens letter more fields =
+    eqb (length fields) (suc more) && (eqb (length (fieldAt fields 0)) 1 && eqb (getD (fieldAt fields 0) 0 0) letter)
+
+-- "L or R (original, resubmitted), size, level, column, total"
+abbrev pub numbersAfter : List (List ℕ) → Bool
+numbersAfter fields =
+    isNumber (fieldAt fields 1)
+    && (isNumber (fieldAt fields 2) && (isNumber (fieldAt fields 3) && isNumber (fieldAt fields 4)))
+
+abbrev pub lotIn : Bool → List (List ℕ) → Line
+lotIn again fields =
+    lotLine
+    (record {
+      again = again;
+      size = valueOf (fieldAt fields 1);
+      level = valueOf (fieldAt fields 2);
+      column = valueOf (fieldAt fields 3);
+    })
+    (valueOf (fieldAt fields 4))
+
+-- "each with 0 for no or 1 for yes"
+abbrev pub yesOrNo : List ℕ → Bool
+yesOrNo field = isNumber field && leb (valueOf field) 1
+
+abbrev pub orderIn : ℕ → ℕ → List (List ℕ) → Line
+orderIn onYes onNo fields = orderLine (cond (eqb (valueOf (fieldAt fields 1)) 1) onYes onNo)
+
+-- L 76, R 82, "S (steady) and P (permission)" 83 and 80, "C (corrective)" 67; the forms that the work knows are those
+-- of its history bytes
+unfoldable pub lineOf : Work → List (List ℕ) → Line
+lineOf w fields =
+    cond (opens 76 4 fields && numbersAfter fields) (lotIn false fields)
+    (cond (opens 82 4 fields && (numbersAfter fields && w .knows 4)) (lotIn true fields)
+    (cond (opens 83 1 fields && yesOrNo (fieldAt fields 1)) (orderIn 5 6 fields)
+    (cond (opens 80 1 fields && yesOrNo (fieldAt fields 1)) (orderIn 7 8 fields)
+    (cond (opens 67 0 fields) (orderLine 9) unknownLine))))
+
+-- a number in decimal, of at most 20 digits
+unfoldable pub digitsFrom : ℕ → ℕ → List ℕ → List ℕ
+digitsFrom zero n after = after
+digitsFrom (suc k) n after =
+    cond (ltb n 10) ((48 + n) ∷ after) (digitsFrom k (n / 10) ((48 + n % 10) ∷ after))
+
+abbrev pub decimal : ℕ → List ℕ
+decimal n = digitsFrom 20 n []
+
+-- "Letters 0 to 16: A B C D E F G H J K L M N P Q R S"; "N, T, R, or X stopped"
+abbrev pub letterName : ℕ → List ℕ
+letterName letter = getD (ascii "ABCDEFGHJKLMNPQRS") letter 0 ∷ []
+
+abbrev pub severityName : ℕ → List ℕ
+severityName severity = getD (ascii "NTRX") severity 0 ∷ []
+
+abbrev pub verdictName : Bool → List ℕ
+verdictName accepted = cond accepted (ascii "accept") (ascii "reject")
+
+-- fields one space apart, and a newline
+unfoldable pub printed : List ℕ → List (List ℕ) → List ℕ
+printed field [] = field ++ (newline ∷ [])
+printed field (f ∷ fs) = field ++ (space ∷ printed f fs)
+
+abbrev pub refusedLine : ℕ → ℕ → List ℕ
+refusedLine line number = printed (decimal line) (ascii "refused" ∷ decimal number ∷ [])
+
+-- "line, severity used (N, T, R), letter, size, Ac, verdict, severity after (N, T, R, or X stopped), score after"
+abbrev pub lotText : ℕ → Record → Closed Plan → List ℕ
+lotText line r c =
+    printed (decimal line)
+    (severityName (r .severity)
+    ∷ letterName (c .judged .plan .letter)
+    ∷ decimal (c .judged .plan .n)
+    ∷ decimal (c .judged .plan .ac)
+    ∷ verdictName (c .judged .verdict .accepted)
+    ∷ severityName (c .recordAfter .severity)
+    ∷ decimal (c .recordAfter .score)
+    ∷ [])
+
+-- "An accepted order prints its line number, "order", severity and score after."
+abbrev pub orderText : ℕ → Record → List ℕ
+orderText line r = printed (decimal line) (ascii "order" ∷ severityName (r .severity) ∷ decimal (r .score) ∷ [])
+
+-- What a line prints, and the record after it.
+pub record Logged : Type 0 where
+  pub held : Record
+  pub text : List ℕ
+
+abbrev pub logged : Record → List ℕ → Logged
+logged r text = record { held = r; text = text }
+
+abbrev pub loggedLot : ℕ → Record → Answer (Closed Plan) → Logged
+loggedLot line r (refused number p) = logged r (refusedLine line number)
+loggedLot line r (given c) = logged (c .recordAfter) (lotText line r c)
+
+abbrev pub loggedOrder : ℕ → Record → Answer Record → Logged
+loggedOrder line r (refused number p) = logged r (refusedLine line number)
+loggedOrder line r (given t) = logged t (orderText line t)
+
+unfoldable pub loggedAs : Work → ℕ → Record → Line → Logged
+loggedAs w line r (lotLine o total) = loggedLot line r (closeTotal r o total)
+loggedAs w line r (orderLine byte) = loggedOrder line r (next w r byte)
+loggedAs w line r unknownLine = logged r (refusedLine line unknownForm)
+
+abbrev pub loggedLine : Work → ℕ → Record → List ℕ → Logged
+loggedLine w line r bytes = loggedAs w line r (lineOf w (splitAt space bytes))
+
+-- the line's number sticks at 2⁶⁴ − 1
+abbrev pub lineAfter : ℕ → ℕ
+lineAfter line = min (line + 1) 18446744073709551615
+
+unfoldable pub logFrom : Work → ℕ → Record → List (List ℕ) → List ℕ
+logFrom w line r [] = []
+logFrom w line r (l ∷ ls) = loggedLine w line r l .text ++ logFrom w (lineAfter line) (loggedLine w line r l .held) ls
+
+abbrev pub header : List ℕ
+header = ascii "no sev let n ac verdict next score\n"
+
+-- the whole output for a whole input
+unfoldable pub log : Work → List ℕ → List ℕ
+log w input = header ++ logFrom w 1 (fresh (w .permission)) (linesOf input)

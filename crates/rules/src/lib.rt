@@ -1,0 +1,1 @@
+// No code: specs/ holds document 01 as definitions, proofs/ the laws on them.
