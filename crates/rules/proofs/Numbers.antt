@@ -1,0 +1,60 @@
+-- The numbers of a stretch of bytes: how many there are, which stands where, and those from a place on.
+-- Assumes nothing.
+use Prim.Native.Nat.{ℕ, zero, suc, _+_, _-_, _*_, _≤_, _<_}
+use mathlib.Core.Path.{_≡_, refl, ap, sym, _∙_}
+use mathlib.Core.List.{List, [], _∷_}
+use native.Mathlib.Omega.{arith}
+use lib.ListN.{length, getD, drop, take, length-drop, drop-of-length-le}
+use lib.Seq.{take-all, drop-cons}
+use Rattle.rules.specs.Numbers.{numbersOf}
+
+pub numbers-low : (b : List ℕ) → 2 * length (numbersOf b) ≤ length b
+unfolding numbersOf
+numbers-low [] = omega arith
+numbers-low (a ∷ []) = omega arith
+numbers-low (a ∷ b ∷ r) = omega (arith, numbers-low r)
+
+pub numbers-high : (b : List ℕ) → length b ≤ 2 * length (numbersOf b) + 1
+unfolding numbersOf
+numbers-high [] = omega arith
+numbers-high (a ∷ []) = omega arith
+numbers-high (a ∷ b ∷ r) = omega (arith, numbers-high r)
+
+twice-suc : (i : ℕ) → 2 * suc i ≡ suc (suc (2 * i))
+twice-suc i = omega arith
+
+pub number-at : (b : List ℕ) (i : ℕ) → i < length (numbersOf b) → getD (numbersOf b) i 0 ≡ getD b (2 * i) 0 + 256 * getD b (2 * i + 1) 0
+unfolding numbersOf
+number-at [] i h = omega arith
+number-at (a ∷ []) i h = omega arith
+number-at (a ∷ b ∷ r) zero h = refl
+number-at (a ∷ b ∷ r) (suc i) h =
+    let e : 2 * suc i + 1 ≡ suc (suc (2 * i + 1)) = omega arith in
+    let g : i < length (numbersOf r) = omega arith in
+    rw (e, twice-suc i) (number-at r i g)
+
+pub numbers-drop : (b : List ℕ) (i : ℕ) → numbersOf (drop (2 * i) b) ≡ drop i (numbersOf b)
+unfolding numbersOf
+numbers-drop b zero = refl
+numbers-drop [] (suc i) = rw twice-suc
+numbers-drop (a ∷ []) (suc i) = rw twice-suc
+numbers-drop (a ∷ b ∷ r) (suc i) = rw twice-suc (numbers-drop r i)
+
+-- of the part of a slice from a place to its end
+pub numbers-part : (b : List ℕ) (i : ℕ) → numbersOf (take (length b - 2 * i) (drop (2 * i) b)) ≡ drop i (numbersOf b)
+numbers-part b i =
+    let l : length (drop (2 * i) b) ≤ length b - 2 * i = omega (arith, length-drop (2 * i) b) in
+    rw (take-all (length b - 2 * i) (drop (2 * i) b) l) (numbers-drop b i)
+
+-- the number at a place, and those after it
+pub numbers-next : (b : List ℕ) (i : ℕ) → 2 * i + 1 < length b
+    → drop i (numbersOf b) ≡ (getD b (2 * i) 0 + 256 * getD b (2 * i + 1) 0) ∷ drop (suc i) (numbersOf b)
+numbers-next b i h =
+    let l : i < length (numbersOf b) = omega (arith, numbers-high b) in
+    drop-cons (numbersOf b) i 0 l ∙ ap (λ (x : ℕ). x ∷ drop (suc i) (numbersOf b)) (number-at b i l)
+
+-- fewer than two bytes from a place on hold no number
+pub numbers-end : (b : List ℕ) (i : ℕ) → length b ≤ 2 * i + 1 → drop i (numbersOf b) ≡ []
+numbers-end b i h =
+    let l : length (numbersOf b) ≤ i = omega (arith, numbers-low b) in
+    drop-of-length-le (numbersOf b) l
