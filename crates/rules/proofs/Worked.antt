@@ -18,7 +18,7 @@ use Rattle.rules.specs.Severity.{onLot, onResubmitted, onOrder, onCorrec
 use Rattle.rules.specs.Reading.{severityRead, stayAfter, steadyIn, permissionIn, notAcceptedIn, runOf}
 use Rattle.rules.specs.Reading.{pointsOf, readLot, readOrder, readEvent}
 use Rattle.rules.specs.History.{ours, past, eventIn, eventOf}
-use Rattle.rules.specs.Entries.{next, closeTotal, judgeTotal}
+use Rattle.rules.specs.Entries.{next, closeTotal, judgeTotal, plainPlan}
 use Rattle.rules.specs.Log.{log, logFrom, loggedAs, lineOf, splitAt, droppingEmptyLast, allDigits, valueFrom}
 use Rattle.rules.specs.Log.{isNumber, digitsFrom, printed}
 
@@ -128,6 +128,6 @@ output =
 -- lotlog's "Output, whole".
 pub listing : log ours input ≡ output
 unfolding input output log logFrom loggedAs lineOf splitAt droppingEmptyLast allDigits valueFrom isNumber digitsFrom
-    printed next closeTotal judgeTotal tablePlan landing boxAt tighterAc letterOf rowOf rowFrom step onLot
+    printed next closeTotal judgeTotal plainPlan tablePlan landing boxAt tighterAc letterOf rowOf rowFrom step onLot
     onResubmitted onOrder onCorrective figuresInRange eventIn eventOf lib.Count.ones
 listing = refl

@@ -113,6 +113,12 @@ singlePlan q book =
     (fromEntry (lookedUp reducedSection q book) (λ e. given (reducedPlan q e)))
     (given (tablePlan (q .severity) (q .size) (q .level) (q .column)))))
 
+-- table_plan, of a bench without a book: "It has no book, so a lot under reduced is refusal 6"
+unfoldable pub plainPlan : Asked → Answer Plan
+plainPlan q =
+    firstOf (askedChecks q ++ ((eqb (q .severity) reduced gives noPlan) ∷ []))
+    (given (tablePlan (q .severity) (q .size) (q .level) (q .column)))
+
 -- the plans that only a book supplies
 unfoldable pub stagedPlan : Asked → List ℕ → Answer StagedPlan
 stagedPlan q book =
@@ -202,16 +208,14 @@ closeStaged r o book sample =
     onSound (checkBook book)
     (onRecord r (andThen (judgeStaged (askedOn r o) book sample) (closedWith r o (stagedCounts r o))))
 
--- "It has no book, so a lot under reduced is refusal 6"; "in lotlog, total over n for columns 0 to 15"
+-- "in lotlog, total over n for columns 0 to 15"
 abbrev pub totalOn : ℕ → ℕ → Plan → Answer (Judged Plan Verdict)
 totalOn column total plan =
     firstOf ((countsItems column && ltb (plan .n) total gives illegalItem) ∷ [])
     (given (record { plan = plan; verdict = singleVerdict plan total }))
 
 unfoldable pub judgeTotal : Asked → ℕ → Answer (Judged Plan Verdict)
-judgeTotal q total =
-    firstOf (askedChecks q ++ ((eqb (q .severity) reduced gives noPlan) ∷ []))
-    (totalOn (q .column) total (tablePlan (q .severity) (q .size) (q .level) (q .column)))
+judgeTotal q total = andThen (plainPlan q) (totalOn (q .column) total)
 
 -- close_total
 unfoldable pub closeTotal : Record → Offered → ℕ → Answer (Closed Plan)
