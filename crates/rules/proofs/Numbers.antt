@@ -1,12 +1,14 @@
--- The numbers of a stretch of bytes: how many there are, which stands where, and those from a place on.
+-- The numbers of a stretch of bytes: how many there are, which stands where, those from a place on, and a reading.
 -- Assumes nothing.
-use Prim.Native.Nat.{ℕ, zero, suc, _+_, _-_, _*_, _≤_, _<_}
+use Prim.Native.Nat.{ℕ, zero, suc, _+_, _-_, _*_, _/_, _≤_, _<_}
 use mathlib.Core.Path.{_≡_, refl, ap, sym, _∙_}
 use mathlib.Core.List.{List, [], _∷_}
 use native.Mathlib.Omega.{arith}
+use borrow.Author.Tests.{lt-ltb, le-ltb}
+use lib.IntN.{pos, _+ℤ_}
 use lib.ListN.{length, getD, drop, take, length-drop, drop-of-length-le}
 use lib.Seq.{take-all, drop-cons}
-use Rattle.rules.specs.Numbers.{numbersOf}
+use Rattle.rules.specs.Numbers.{numbersOf, signedOf}
 
 pub numbers-low : (b : List ℕ) → 2 * length (numbersOf b) ≤ length b
 unfolding numbersOf
@@ -20,10 +22,14 @@ numbers-high [] = omega arith
 numbers-high (a ∷ []) = omega arith
 numbers-high (a ∷ b ∷ r) = omega (arith, numbers-high r)
 
+pub numbers-count : (b : List ℕ) → length (numbersOf b) ≡ length b / 2
+numbers-count b = omega (arith, numbers-low b, numbers-high b)
+
 twice-suc : (i : ℕ) → 2 * suc i ≡ suc (suc (2 * i))
 twice-suc i = omega arith
 
-pub number-at : (b : List ℕ) (i : ℕ) → i < length (numbersOf b) → getD (numbersOf b) i 0 ≡ getD b (2 * i) 0 + 256 * getD b (2 * i + 1) 0
+pub number-at : (b : List ℕ) (i : ℕ) → i < length (numbersOf b)
+    → getD (numbersOf b) i 0 ≡ getD b (2 * i) 0 + 256 * getD b (2 * i + 1) 0
 unfolding numbersOf
 number-at [] i h = omega arith
 number-at (a ∷ []) i h = omega arith
@@ -58,3 +64,15 @@ pub numbers-end : (b : List ℕ) (i : ℕ) → length b ≤ 2 * i + 1 → drop i
 numbers-end b i h =
     let l : length (numbersOf b) ≤ i = omega (arith, numbers-low b) in
     drop-of-length-le (numbersOf b) l
+
+-- a reading plus 32,768, by the half of the range that its number is in
+pub raised-low : (v : ℕ) → v < 32768 → pos (v + 32768) ≡ signedOf v +ℤ pos 32768
+unfolding signedOf
+raised-low v h = rw (lt-ltb v 32768 h) refl
+
+pub raised-high : (v : ℕ) → 32768 ≤ v → v < 65536 → pos (v - 32768) ≡ signedOf v +ℤ pos 32768
+unfolding signedOf
+raised-high v h l =
+    let e : v - 32768 ≡ 32768 - suc (65536 - suc v) = omega arith in
+    rw (le-ltb v 32768 h, lt-ltb v 65536 l)
+    (rw (le-ltb 32768 (suc (65536 - suc v)) (omega arith)) (ap pos e))
