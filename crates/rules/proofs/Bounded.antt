@@ -34,11 +34,16 @@ all (suc n) f = f 0 && all n (λ i. f (suc i))
 pub all-at : (n : ℕ) (f : ℕ → Bool) → T (all n f) → (i : ℕ) → i < n → T (f i)
 all-at zero f t i h = absurd (not-suc-le-zero h)
 all-at (suc n) f t zero h = both-left (f 0) (all n (λ i. f (suc i))) t
-all-at (suc n) f t (suc i) h = all-at n (λ j. f (suc j)) (both-right (f 0) (all n (λ j. f (suc j))) t) i (le-of-suc-le-suc h)
+all-at (suc n) f t (suc i) h =
+    all-at n (λ j. f (suc j)) (both-right (f 0) (all n (λ j. f (suc j))) t) i (le-of-suc-le-suc h)
 
--- the same at each pair below two bounds
+-- the same at each pair below two bounds, and each three below three
 pub all-at₂ : (n m : ℕ) (f : ℕ → ℕ → Bool) → T (all n (λ i. all m (f i))) → (i j : ℕ) → i < n → j < m → T (f i j)
 all-at₂ n m f t i j h g = all-at m (f i) (all-at n (λ i. all m (f i)) t i h) j g
+
+pub all-at₃ : (k n m : ℕ) (f : ℕ → ℕ → ℕ → Bool) → T (all k (λ h. all n (λ i. all m (f h i))))
+    → (h i j : ℕ) → h < k → i < n → j < m → T (f h i j)
+all-at₃ k n m f t h i j a b c = all-at₂ n m (f h) (all-at k (λ h. all n (λ i. all m (f h i))) t h a) i j b c
 
 -- every entry of a list is at most b, and so is what stands at any place, 0 past its end
 abbrev pub each : ℕ → List ℕ → Bool

@@ -1,6 +1,10 @@
 pub mod Bounded
+pub mod Diff
+pub mod Landing
 pub mod Numbers
-pub mod Walks
+pub mod SampleSteps
 pub mod SectionKinds
 pub mod Steps
+pub mod Tables
+pub mod Walks
 pub mod Worked
