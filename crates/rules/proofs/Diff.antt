@@ -86,6 +86,9 @@ neg-of n = diff-neg (diff-pos n)
 
 pub diff-mul : {x y : ℤ} {a b c d : ℕ} → Diff x a b → Diff y c d → Diff (x *ℤ y) (a * c + b * d) (a * d + b * c)
 diff-mul {x = pos n} {y = pos m} {a} {b} {c} {d} h k = rw (h .is, k .is) (pos-pos n b m d)
-diff-mul {x = pos n} {y = negsuc m} {a} {b} {c} {d} h k = rw (h .is, ← k .is) (move _ _ (neg-of (n * suc m)) (omega (arith, prod-pn n b c (suc m))))
-diff-mul {x = negsuc n} {y = pos m} {a} {b} {c} {d} h k = rw (← h .is, k .is) (move _ _ (neg-of (suc n * m)) (simp (add-mul, mul-add) (omega arith)))
-diff-mul {x = negsuc n} {y = negsuc m} {a} {b} {c} {d} h k = rw (← h .is, ← k .is) (move _ _ (diff-pos (suc n * suc m)) (simp (add-mul, mul-add) (omega arith)))
+diff-mul {x = pos n} {y = negsuc m} {a} {b} {c} {d} h k =
+    rw (h .is, ← k .is) (move _ _ (neg-of (n * suc m)) (omega (arith, prod-pn n b c (suc m))))
+diff-mul {x = negsuc n} {y = pos m} {a} {b} {c} {d} h k =
+    rw (← h .is, k .is) (move _ _ (neg-of (suc n * m)) (simp (add-mul, mul-add) (omega arith)))
+diff-mul {x = negsuc n} {y = negsuc m} {a} {b} {c} {d} h k =
+    rw (← h .is, ← k .is) (move _ _ (diff-pos (suc n * suc m)) (simp (add-mul, mul-add) (omega arith)))

@@ -96,10 +96,12 @@ module _ (c l : ℕ) (g : c < 26) (h : l < 16) (two : 2 ≤ landingOf normal c l
   unfolding column
   tighter-column =
       leb→le _ _
-      (implies-at (leb 2 (landingOf normal c l .ac)) (leb 1 c) (all-at₂ 26 16 column column-all c l g h) (le→leb _ _ two))
+      (implies-at (leb 2 (landingOf normal c l .ac)) (leb 1 c)
+      (all-at₂ 26 16 column column-all c l g h) (le→leb _ _ two))
 
   -- .. and a number there, at the letter that gives the size.
-  pub one-tighter : boxAt normal (c - 1) (landingOf normal c l .letter) ≡ number (tighterAc (landingOf normal c l .letter) c)
+  pub one-tighter : boxAt normal (c - 1) (landingOf normal c l .letter)
+      ≡ number (tighterAc (landingOf normal c l .letter) c)
   unfolding tighter
   one-tighter =
       holds-it _ _
