@@ -1,10 +1,16 @@
+pub mod Agreement
+pub mod Answers
+pub mod Append
 pub mod Bounded
 pub mod Diff
+pub mod Histories
 pub mod Landing
 pub mod Numbers
+pub mod Range
 pub mod SampleSteps
 pub mod SectionKinds
 pub mod Steps
 pub mod Tables
 pub mod Walks
+pub mod Window
 pub mod Worked

@@ -1,13 +1,14 @@
 -- Document 01, 'Severity record', the written reading of demand 3, which keeps no record. Events and lots stand
 -- newest first. Definitions only.
-use Prim.Native.Nat.{ℕ, zero, suc, _+_, min}
+use Prim.Native.Nat.{ℕ, zero, suc, _+_, _*_, min}
 use mathlib.Core.Bool.{Bool, true, false, cond, _&&_, not}
 use mathlib.Core.List.{List, [], _∷_}
-use lib.Dec.{leb}
+use lib.Dec.{leb, eqb}
 use lib.ListN.{take}
 use Rattle.rules.specs.Codes.{normal, tightened, reduced, stopped}
 use Rattle.rules.specs.Severity.{Lot, addThree, addTwo, scoreZero, notAccepted, accepted, Event, lot}
 use Rattle.rules.specs.Severity.{resubmitted, steadyIs, permissionIs, corrective, unknown, due}
+use Rattle.rules.specs.Severity.{Record, started, onNormal, onTightened, badBit}
 
 -- "steady and permission are as last ordered, else as at the start"
 abbrev pub steadyBy : Event → Bool → Bool
@@ -114,3 +115,41 @@ stayAfter start (e ∷ es) = readEvent e (steadyIn (e ∷ es)) (permissionIn sta
 -- the severity that the written reading finds
 abbrev pub severityRead : Bool → List Event → ℕ
 severityRead start es = stayAfter start es .severity
+
+-- The record that the written reading finds: "it takes the last five, the accepted ones after the last not accepted,
+-- the number not accepted, and the points after the last score 0, cut to 30".
+unfoldable pub bitsOf : List Lot → ℕ
+bitsOf [] = 0
+bitsOf (l ∷ ls) = 2 * bitsOf ls + badBit l
+
+unfoldable pub figuresOf : ℕ → List Lot → Bool → Bool → Record
+figuresOf zero ls st pe = onNormal (scoreOf ls) (bitsOf (take 5 ls)) st pe
+figuresOf (suc zero) ls st pe = onTightened (runOf ls) (notAcceptedIn ls) st pe
+figuresOf (suc (suc s)) ls st pe = started (suc (suc s)) st pe
+
+abbrev pub recordOf : Bool → Bool → Stay → Record
+recordOf st pe y = figuresOf (y .severity) (y .lots) st pe
+
+abbrev pub recordRead : Bool → List Event → Record
+recordRead start es = recordOf (steadyIn es) (permissionIn start es) (stayAfter start es)
+
+-- the original lots of a stay, with the one that an event may bring
+abbrev pub lotsWith : Event → List Lot → List Lot
+lotsWith (lot o l) ls = l ∷ ls
+lotsWith resubmitted ls = ls
+lotsWith (steadyIs b) ls = ls
+lotsWith (permissionIs b) ls = ls
+lotsWith corrective ls = ls
+lotsWith unknown ls = ls
+
+-- Every stay that a history contains, the present one first: each with all the original lots judged in it, the one
+-- that ended it too. A change of severity ends a stay.
+abbrev pub staysBy : Event → ℕ → List Stay → List Stay
+staysBy e severity [] = []
+staysBy e severity (y ∷ ys) =
+    cond (eqb severity (y .severity)) (stayOf (y .severity) (lotsWith e (y .lots)) ∷ ys)
+    (stayOf severity [] ∷ stayOf (y .severity) (lotsWith e (y .lots)) ∷ ys)
+
+unfoldable pub staysIn : Bool → List Event → List Stay
+staysIn start [] = stayOf normal [] ∷ []
+staysIn start (e ∷ es) = staysBy e (severityRead start (e ∷ es)) (staysIn start es)

@@ -1,0 +1,27 @@
+-- A refusal is not something given; what a chain of answers gives, each of its parts gave.
+-- Assumes nothing.
+use Prim.Native.Nat.{ℕ}
+use mathlib.Core.Bool.{Bool, true, false, false≢true}
+use mathlib.Core.Path.{_≡_, refl, ap}
+use Rattle.rules.specs.Refusals.{Answer, refused, given, andThen}
+use Rattle.rules.specs.History.{placed}
+
+isGiven : {A : Type 0} → Answer A → Bool
+isGiven (refused n p) = false
+isGiven (given a) = true
+
+pub refused-given : {A : Type 0} {n p : ℕ} {a : A} → refused n p ≡ given a → ⊥
+unfolding isGiven
+refused-given e = false≢true (ap isGiven e)
+
+pub then-given : {A B : Type 0} (a : Answer A) (next : A → Answer B) (b : B) → andThen a next ≡ given b
+    → (x : A) × (a ≡ given x) × (next x ≡ given b)
+then-given (refused n p) next b e = absurd (refused-given e)
+then-given (given x) next b e = (x, refl, e)
+
+pub placed-given : {A : Type 0} (k : ℕ) (a : Answer A) (x : A) → placed k a ≡ given x → a ≡ given x
+placed-given k (refused n p) x e = absurd (refused-given e)
+placed-given k (given a) x e = e
+
+pub given-one : {A : Type 0} {a b : A} → given a ≡ given b → a ≡ b
+given-one e = cc
