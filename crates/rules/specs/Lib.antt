@@ -15,3 +15,4 @@ pub mod Entries
 pub mod Ascii
 pub mod Runs
 pub mod Log
+pub mod Terminal

@@ -1,0 +1,51 @@
+-- Document 01, "The C terminal calls the plan, the verdict and the next severity with numbers and byte slices": the
+-- status that a call returns, a lent record's bytes, and what lent memory then holds. Definitions only.
+use Prim.Native.Nat.{ℕ, _+_, _*_}
+use mathlib.Core.Bool.{Bool, true, false, cond, _&&_}
+use mathlib.Core.List.{List, [], _∷_}
+use lib.Dec.{leb, eqb}
+use lib.ListN.{length, getD}
+use Rattle.rules.specs.Refusals.{Answer, refused, given}
+use Rattle.rules.specs.Severity.{Record, started}
+
+-- 0 answered; else the refusal's number in the low byte and its place above it
+abbrev pub statusOf : {A : Type 0} → Answer A → ℕ
+statusOf (refused n p) = n + 256 * p
+statusOf (given a) = 0
+
+-- what an out-parameter holds at exit: "A refusal .. writes nothing"
+abbrev pub leftBy : {A B : Type 0} → (A → B) → Answer A → B → B
+leftBy value (refused n p) before = before
+leftBy value (given a) before = value a
+
+-- a record's bytes: severity, score, run, count, window, steady, permission
+abbrev pub recordBytes : ℕ
+recordBytes = 7
+
+abbrev pub flag : Bool → ℕ
+flag b = cond b 1 0
+
+abbrev pub bytesOf : Record → List ℕ
+bytesOf r =
+    r .severity ∷ r .score ∷ r .run ∷ r .count ∷ r .window ∷ flag (r .steady) ∷ flag (r .permission) ∷ []
+
+-- another length, or a steady or permission byte over 1, is a record out of range
+unfoldable pub hasForm : List ℕ → Bool
+hasForm bytes = eqb (length bytes) recordBytes && (leb (getD bytes 5 0) 1 && leb (getD bytes 6 0) 1)
+
+abbrev pub outOfForm : Record
+outOfForm = started 4 false false
+
+unfoldable pub recordIn : List ℕ → Record
+recordIn bytes =
+    cond (hasForm bytes)
+    (record {
+      severity = getD bytes 0 0;
+      score = getD bytes 1 0;
+      run = getD bytes 2 0;
+      count = getD bytes 3 0;
+      window = getD bytes 4 0;
+      steady = eqb (getD bytes 5 0) 1;
+      permission = eqb (getD bytes 6 0) 1;
+    })
+    outOfForm
