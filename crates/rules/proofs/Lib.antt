@@ -2,6 +2,7 @@ pub mod Agreement
 pub mod Answers
 pub mod Append
 pub mod Bounded
+pub mod Checks
 pub mod Diff
 pub mod Histories
 pub mod Landing

@@ -1,10 +1,10 @@
 -- Document 01, 'Codes': levels, letters, columns, and Table 1. Definitions only.
 use Prim.Native.Nat.{ℕ, zero, suc, _+_, _*_}
 use mathlib.Core.Bool.{Bool, true, false, cond, _&&_, _||_}
-use mathlib.Core.List.{List, [], _∷_}
+use mathlib.Core.List.{List, [], _∷_, _++_}
 use lib.Dec.{leb, ltb}
 use lib.ListN.{getD}
-use Rattle.rules.specs.Refusals.{Check, _gives_, lotTooSmall, noSuchLevel, noSuchColumn}
+use Rattle.rules.specs.Refusals.{Answer, given, Check, _gives_, firstOf, lotTooSmall, noSuchLevel, noSuchColumn}
 
 -- "Severities: 0 normal, 1 tightened, 2 reduced, 3 stopped."
 abbrev pub normal : ℕ
@@ -41,9 +41,11 @@ anyIllegal column [] = false
 anyIllegal column (x ∷ xs) = illegal column x || anyIllegal column xs
 
 -- "Lot size is 2 to 4,294,967,295" (an entry takes no larger number), "level over 6", "column over 25"
+abbrev pub letterChecks : ℕ → ℕ → List Check
+letterChecks size level = (ltb size 2 gives lotTooSmall) ∷ (ltb 6 level gives noSuchLevel) ∷ []
+
 abbrev pub lotChecks : ℕ → ℕ → ℕ → List Check
-lotChecks size level column =
-    (ltb size 2 gives lotTooSmall) ∷ (ltb 6 level gives noSuchLevel) ∷ (ltb 25 column gives noSuchColumn) ∷ []
+lotChecks size level column = letterChecks size level ++ ((ltb 25 column gives noSuchColumn) ∷ [])
 
 -- "Letter by size up to": the last size of each row of Table 1 but the last, "above", which has none
 abbrev pub upTo : List ℕ
@@ -78,3 +80,7 @@ rowOf size = rowFrom 0 upTo size
 
 unfoldable pub letterOf : ℕ → ℕ → ℕ
 letterOf size level = getD tableOne (rowOf size * 7 + level) 0
+
+-- letter
+unfoldable pub tableOneLetter : ℕ → ℕ → Answer ℕ
+tableOneLetter size level = firstOf (letterChecks size level) (given (letterOf size level))

@@ -73,6 +73,10 @@ askedChecks q =
     (ltb stopped (q .severity) gives unknownForm)
     ∷ (lotChecks (q .size) (q .level) (q .column) ++ ((eqb (q .severity) stopped gives whileStopped) ∷ []))
 
+-- asked_letter: the Table 1 letter of a lot that can be planned
+unfoldable pub askedLetter : Asked → Answer ℕ
+askedLetter q = firstOf (askedChecks q) (given (letterOf (q .size) (q .level)))
+
 -- the sections of the book, in their order
 abbrev pub reducedSection : ℕ
 reducedSection = 0
