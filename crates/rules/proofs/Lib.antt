@@ -14,4 +14,5 @@ pub mod Steps
 pub mod Tables
 pub mod Walks
 pub mod Window
+pub mod Faults
 pub mod Worked

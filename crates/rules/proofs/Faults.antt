@@ -1,0 +1,382 @@
+-- The byte that the check of a book reports is a fault of the book, and no lower byte is one; a sound book has none.
+-- Proved once over the kinds of section.
+-- Assumes nothing.
+use Prim.Native.Nat.{ℕ, zero, suc, _+_, _*_, _-_, _≤_, _<_}
+use mathlib.Core.Path.{_≡_, refl, ap, sym, _∙_}
+use mathlib.Core.Bool.{Bool, true, false, cond, _&&_, not, true≢false, and-false}
+use mathlib.Core.List.{List, [], _∷_}
+use native.Mathlib.Omega.{arith}
+use borrow.Author.Tests.{ltb-true, ltb-false, leb-true, le-leb, not-true}
+use lib.ListN.{length, getD, take, drop, length-drop}
+use lib.Seq.{drop-drop}
+use lib.Dec.{ltb, leb}
+use Rattle.rules.specs.Numbers.{numbersOf}
+use Rattle.rules.specs.Book.{Walk, ends, broken, short, shift, thenFrom, Kind, right, numbersFrom, sizeOf}
+use Rattle.rules.specs.Book.{within, anything, keyOf, rises, keyFalls, entry, entries, section, sections}
+use Rattle.rules.specs.Book.{kinds, variables, largestBook, Checked, sound, brokenAt, checkedAs, checkBook}
+use Rattle.rules.specs.Faults.{entryAt, keyBefore, sectionSize, sectionAt, EntryFault, outOfRange, breaksRule}
+use Rattle.rules.specs.Faults.{keyStays, EntriesFault, SectionFault, SectionsFault, bookEnd, BookFault, tooLong}
+use Rattle.rules.specs.Faults.{wrongNumber, follows, missing}
+use Rattle.rules.proofs.Bounded.{by-le}
+use Rattle.rules.proofs.Numbers.{numbers-low, numbers-high}
+use Rattle.rules.proofs.SectionKinds.{key-there, entry-deep}
+
+-- What a walk tells of a stretch of l numbers whose layout has s, with the faults F: it ends after those s, with no
+-- fault; it is broken at the lowest fault; or there are fewer than s, with no fault.
+abbrev Tells : (ℕ → Type 0) → ℕ → ℕ → Walk → Type 0
+Tells F s l (ends p) = (p ≡ s) × ((s ≤ l) × ((q : ℕ) → F q → ⊥))
+Tells F s l (broken p) = F p × ((p < s) × ((p < l) × ((q : ℕ) → F q → p ≤ q)))
+Tells F s l short = (l < s) × ((q : ℕ) → F q → ⊥)
+
+-- the same faults in other words
+same-faults : (F G : ℕ → Type 0) (s l : ℕ) (w : Walk) → ((q : ℕ) → F q → G q) → ((q : ℕ) → G q → F q)
+    → Tells F s l w → Tells G s l w
+same-faults F G s l (ends p) to from t = (t .0, (t .1 .0, λ q g. t .1 .1 q (from q g)))
+same-faults F G s l (broken p) to from t = (to p (t .0), (t .1 .0, (t .1 .1 .0, λ q g. t .1 .1 .1 q (from q g))))
+same-faults F G s l short to from t = (t .0, λ q g. t .1 q (from q g))
+
+-- the faults of one stretch and of the next, s numbers on
+data Either (F G : ℕ → Type 0) (s q : ℕ) : Type 0 where
+  here : F q → Either F G s q
+  later : (r : ℕ) → q ≡ s + r → G r → Either F G s q
+
+-- past a stretch that is broken or lacks a number, the next one's faults are no lower, or none
+module _ (F G : ℕ → Type 0) (s t u l m : ℕ) (whole : u ≡ s + t) (left : m ≡ l - s) where
+  then-tells : (w : Walk) (f : ℕ → Walk) → Tells F s l w → (s ≤ l → Tells G t m (f s))
+      → (l < s → (r : ℕ) → G r → ⊥) → Tells (Either F G s) u l (thenFrom w f)
+  unfolding thenFrom shift
+  then-tells (ends p) f a b c = go (f p) (rw (a .0) (b (a .1 .0)))
+    where
+      none : ((r : ℕ) → G r → ⊥) → (q : ℕ) → Either F G s q → ⊥
+      none never q (here x) = a .1 .1 q x
+      none never q (later r e x) = never r x
+
+      low : (p : ℕ) → ((r : ℕ) → G r → p ≤ r) → (q : ℕ) → Either F G s q → s + p ≤ q
+      low p least q (here x) = absurd (a .1 .1 q x)
+      low p least q (later r e x) = omega (arith, least r x)
+
+      go : (v : Walk) → Tells G t m v → Tells (Either F G s) u l (shift p v)
+      go (ends r) d = (omega (arith, a .0, d .0), (omega (arith, a .1 .0, d .1 .0), none (d .1 .1)))
+      go (broken r) d =
+          rw (a .0)
+          (later r refl (d .0), (omega (arith, d .1 .0), (omega (arith, a .1 .0, d .1 .1 .0), low r (d .1 .1 .1))))
+      go short d = (omega (arith, a .1 .0, d .0), none (d .1))
+  then-tells (broken p) f a b c = (here (a .0), (omega (arith, a .1 .0), (a .1 .1 .0, low)))
+    where
+      low : (q : ℕ) → Either F G s q → p ≤ q
+      low q (here x) = a .1 .1 .1 q x
+      low q (later r e x) = omega (arith, a .1 .0)
+  then-tells short f a b c = (omega (arith, a .0), none)
+    where
+      none : (q : ℕ) → Either F G s q → ⊥
+      none q (here x) = a .1 q x
+      none q (later r e x) = c (a .0) r x
+
+-- the numbers of an entry that are not right, from place i to place s
+abbrev Wrong : Kind → List ℕ → ℕ → ℕ → ℕ → Type 0
+Wrong k e i s q = (i ≤ q) × ((q < s) × ((q < length e) × (right k e q ≡ false)))
+
+numbers-tell : (k : Kind) (e : List ℕ) (n i s : ℕ) → s ≡ i + n → i ≤ length e
+    → Tells (Wrong k e i s) s (length e) (numbersFrom k e n i)
+unfolding numbersFrom
+numbers-tell k e zero i s z h = (omega arith, (omega arith, λ q w. omega (arith, w .0, w .1 .0)))
+numbers-tell k e (suc n) i s z h =
+    go (ltb i (length e)) (right k e i) refl refl (numbers-tell k e n (suc i) s (omega arith))
+  where
+    fewer : right k e i ≡ true → (q : ℕ) → Wrong k e i s q → Wrong k e (suc i) s q
+    fewer t q w =
+        by-le q i
+        (λ l. let same : q ≡ i = omega (arith, w .0) in absurd (true≢false (sym t ∙ (rw same at (w .1 .1 .1)))))
+        (λ l. (l, w .1))
+
+    go : (x y : Bool) → ltb i (length e) ≡ x → right k e i ≡ y
+        → (suc i ≤ length e → Tells (Wrong k e (suc i) s) s (length e) (numbersFrom k e n (suc i)))
+        → Tells (Wrong k e i s) s (length e) (cond x (cond y (numbersFrom k e n (suc i)) (broken i)) short)
+    go true true t r ih =
+        same-faults (Wrong k e (suc i) s) (Wrong k e i s) s (length e) (numbersFrom k e n (suc i))
+        (λ q w. (omega (arith, w .0), w .1)) (fewer r) (ih (ltb-true i (length e) t))
+    go true false t r ih =
+        let l : i < length e = ltb-true i (length e) t in
+        ((omega arith, (omega arith, (l, r))), (omega arith, (l, λ q w. w .0)))
+    go false y t r ih =
+        let l : length e ≤ i = ltb-false i (length e) t in
+        (omega arith, λ q w. omega (arith, w .0, w .1 .1 .0))
+
+wrong-is : (k : Kind) (before e : List ℕ) (q : ℕ) → Wrong k e 0 (sizeOf k e) q → EntryFault k before e q
+unfolding right
+wrong-is k before e q w = go (within (getD (k .ranges) q anything) (getD e q 0)) refl (w .1 .1 .1)
+  where
+    go : (t : Bool) → within (getD (k .ranges) q anything) (getD e q 0) ≡ t
+        → t && k .rule (take q e) (getD e q 0) ≡ false → EntryFault k before e q
+    go true p r = breaksRule (w .1 .0) (w .1 .1 .0) r
+    go false p r = outOfRange (w .1 .0) (w .1 .1 .0) p
+
+is-wrong : (k : Kind) (before e : List ℕ) → keyFalls k before e ≡ false → (q : ℕ) → EntryFault k before e q
+    → Wrong k e 0 (sizeOf k e) q
+unfolding right keyFalls
+is-wrong k before e f q (outOfRange a b r) = (omega arith, (a, (b, rw r)))
+is-wrong k before e f q (breaksRule a b r) =
+    (omega arith, (a, (b, rw r (and-false (within (getD (k .ranges) q anything) (getD e q 0))))))
+is-wrong k before e f q (keyStays z a r) = absurd (true≢false (sym (rw (le-leb (k .key) (length e) a, r)) ∙ f))
+
+fallen : (k : Kind) (before e : List ℕ) → keyFalls k before e ≡ true
+    → (k .key ≤ length e) × (rises before (keyOf k e) ≡ false)
+unfolding keyFalls
+fallen k before e t = go (leb (k .key) (length e)) refl t
+  where
+    go : (x : Bool) → leb (k .key) (length e) ≡ x → x && not (rises before (keyOf k e)) ≡ true
+        → (k .key ≤ length e) × (rises before (keyOf k e) ≡ false)
+    go true p r = (leb-true (k .key) (length e) p, not-true (rises before (keyOf k e)) r)
+    go false p r = absurd (true≢false (sym r))
+
+-- what the theorem asks of a kind: a key, and entries longer than it
+abbrev Deep : Kind → Type 0
+Deep k = (0 < k .key) × ((x : ℕ) → k .key < k .size x)
+
+entry-tells : (k : Kind) → Deep k → (before e : List ℕ)
+    → Tells (EntryFault k before e) (sizeOf k e) (length e) (entry k before e)
+unfolding entry
+entry-tells k deep before e = go (keyFalls k before e) refl
+  where
+    go : (x : Bool) → keyFalls k before e ≡ x
+        → Tells (EntryFault k before e) (sizeOf k e) (length e) (cond x (broken 0) (numbersFrom k e (sizeOf k e) 0))
+    go true t =
+        let f = fallen k before e t in (
+          keyStays refl (f .0) (f .1),
+          (omega (arith, deep .0, deep .1 (getD e (k .key) 0)), (omega (arith, deep .0, f .0), λ q w. omega arith)),
+        )
+    go false t =
+        same-faults (Wrong k e 0 (sizeOf k e)) (EntryFault k before e) (sizeOf k e) (length e)
+        (numbersFrom k e (sizeOf k e) 0) (wrong-is k before e) (is-wrong k before e t)
+        (numbers-tell k e (sizeOf k e) 0 (sizeOf k e) (omega arith) (omega arith))
+
+-- past the numbers there is no entry to find fault with
+entry-gone : (k : Kind) → Deep k → (before e : List ℕ) (p : ℕ) → length e ≡ 0 → EntryFault k before e p → ⊥
+entry-gone k deep before e p z (outOfRange a b r) = omega arith
+entry-gone k deep before e p z (breaksRule a b r) = omega arith
+entry-gone k deep before e p z (keyStays q a r) = omega (arith, deep .0)
+
+-- the key before the entry after next, seen from the next entry
+key-next : (k : Kind) (before ws : List ℕ) (i : ℕ)
+    → keyBefore k before (suc i) ws ≡ keyBefore k (keyOf k ws) i (drop (sizeOf k ws) ws)
+unfolding entryAt keyBefore
+key-next k before ws zero = refl
+key-next k before ws (suc i) =
+    sym (ap (keyOf k) (drop-drop (entryAt k i (drop (sizeOf k ws) ws)) (sizeOf k ws) ws))
+
+-- the faults of some entries are the first one's, and those of the entries after it
+module _ (k : Kind) (before : List ℕ) (n : ℕ) (ws : List ℕ) where
+  abbrev Rest : ℕ → Type 0
+  Rest = EntriesFault k (keyOf k ws) n (drop (sizeOf k ws) ws)
+
+  entries-split : (q : ℕ) → EntriesFault k before (suc n) ws q → Either (EntryFault k before ws) Rest (sizeOf k ws) q
+  unfolding entryAt keyBefore
+  entries-split q f = go (f .nth) (f .among) (f .stands) (f .fault)
+    where
+      go : (i : ℕ) → i < suc n → q ≡ entryAt k i ws + f .place
+          → EntryFault k (keyBefore k before i ws) (drop (entryAt k i ws) ws) (f .place)
+          → Either (EntryFault k before ws) Rest (sizeOf k ws) q
+      go zero l e x = let z : q ≡ f .place = omega arith in here (rw z x)
+      go (suc i) l e x =
+          later (entryAt k i (drop (sizeOf k ws) ws) + f .place) (omega arith)
+          (record {
+            nth = i;
+            among = omega arith;
+            place = f .place;
+            stands = refl;
+            fault = rw (← key-next k before ws i, drop-drop (entryAt k i (drop (sizeOf k ws) ws)) (sizeOf k ws) ws) x;
+          })
+
+  entries-join : (q : ℕ) → Either (EntryFault k before ws) Rest (sizeOf k ws) q → EntriesFault k before (suc n) ws q
+  unfolding entryAt keyBefore
+  entries-join q (here x) = record { nth = 0; among = omega arith; place = q; stands = omega arith; fault = x }
+  entries-join q (later r e x) =
+      record {
+        nth = suc (x .nth);
+        among = omega (arith, x .among);
+        place = x .place;
+        stands = omega (arith, x .stands);
+        fault =
+            rw (
+              key-next k before ws (x .nth),
+              ← drop-drop (entryAt k (x .nth) (drop (sizeOf k ws) ws)) (sizeOf k ws) ws,
+            )
+            (x .fault);
+      }
+
+entries-tell : (k : Kind) → Deep k → (n : ℕ) (before ws : List ℕ)
+    → Tells (EntriesFault k before n ws) (entryAt k n ws) (length ws) (entries k n before ws)
+unfolding entryAt entries
+entries-tell k deep zero before ws = (refl, (omega arith, λ q f. omega (arith, f .among)))
+entries-tell k deep (suc n) before ws =
+    same-faults (Either (EntryFault k before ws) (Rest k before n ws) (sizeOf k ws)) (EntriesFault k before (suc n) ws)
+    (entryAt k (suc n) ws) (length ws) (entries k (suc n) before ws)
+    (entries-join k before n ws) (entries-split k before n ws)
+    (then-tells (EntryFault k before ws) (Rest k before n ws) (sizeOf k ws) (entryAt k n (drop (sizeOf k ws) ws))
+    (entryAt k (suc n) ws) (length ws) (length (drop (sizeOf k ws) ws)) refl (length-drop (sizeOf k ws) ws)
+    (entry k before ws) (λ size. entries k n (keyOf k ws) (drop size ws)) (entry-tells k deep before ws)
+    (λ l. entries-tell k deep n (keyOf k ws) (drop (sizeOf k ws) ws))
+    (λ l r x.
+    entry-gone k deep _ _ (x .place)
+    (rw (drop-drop (entryAt k (x .nth) (drop (sizeOf k ws) ws)) (sizeOf k ws) ws, length-drop) (omega arith))
+    (x .fault)))
+
+section-tells : (k : Kind) → Deep k → (ws : List ℕ)
+    → Tells (SectionFault k ws) (sectionSize k ws) (length ws) (section k ws)
+unfolding section thenFrom
+section-tells k deep [] = (omega arith, λ q f. omega (arith, f .fault .among))
+section-tells k deep (count ∷ ws) =
+    same-faults (Either (λ q. ⊥) (EntriesFault k [] count ws) 1) (SectionFault k (count ∷ ws))
+    (sectionSize k (count ∷ ws)) (suc (length ws)) (section k (count ∷ ws)) join split
+    (then-tells (λ q. ⊥) (EntriesFault k [] count ws) 1 (entryAt k count ws) (suc (entryAt k count ws))
+    (suc (length ws)) (length ws) (omega arith) (omega arith) (ends 1) (λ p. entries k count [] ws)
+    (refl, (omega arith, λ q x. x)) (λ l. entries-tell k deep count [] ws) (λ l r x. omega arith))
+  where
+    join : (q : ℕ) → Either (λ q. ⊥) (EntriesFault k [] count ws) 1 q → SectionFault k (count ∷ ws) q
+    join q (here x) = absurd x
+    join q (later r e x) = record { place = r; stands = omega arith; fault = x }
+
+    split : (q : ℕ) → SectionFault k (count ∷ ws) q → Either (λ q. ⊥) (EntriesFault k [] count ws) 1 q
+    split q f = later (f .place) (omega (arith, f .stands)) (f .fault)
+
+-- the faults of sections are the first one's, and those of the sections after it
+module _ (k : Kind) (ks : List Kind) (ws : List ℕ) where
+  abbrev After : ℕ → Type 0
+  After = SectionsFault ks (drop (sectionSize k ws) ws)
+
+  sections-split : (q : ℕ) → SectionsFault (k ∷ ks) ws q → Either (SectionFault k ws) After (sectionSize k ws) q
+  unfolding sectionAt
+  sections-split q f = go (f .nth) (f .among) (f .stands) (f .fault)
+    where
+      go : (j : ℕ) → j < suc (length ks) → q ≡ sectionAt (k ∷ ks) j ws + f .place
+          → SectionFault (getD (k ∷ ks) j variables) (drop (sectionAt (k ∷ ks) j ws) ws) (f .place)
+          → Either (SectionFault k ws) After (sectionSize k ws) q
+      go zero l e x = let z : q ≡ f .place = omega arith in here (rw z x)
+      go (suc j) l e x =
+          later (sectionAt ks j (drop (sectionSize k ws) ws) + f .place) (omega arith)
+          (record {
+            nth = j;
+            among = omega arith;
+            place = f .place;
+            stands = refl;
+            fault = rw (drop-drop (sectionAt ks j (drop (sectionSize k ws) ws)) (sectionSize k ws) ws) x;
+          })
+
+  sections-join : (q : ℕ) → Either (SectionFault k ws) After (sectionSize k ws) q → SectionsFault (k ∷ ks) ws q
+  unfolding sectionAt
+  sections-join q (here x) = record { nth = 0; among = omega arith; place = q; stands = omega arith; fault = x }
+  sections-join q (later r e x) =
+      record {
+        nth = suc (x .nth);
+        among = omega (arith, x .among);
+        place = x .place;
+        stands = omega (arith, x .stands);
+        fault = rw (← drop-drop (sectionAt ks (x .nth) (drop (sectionSize k ws) ws)) (sectionSize k ws) ws) (x .fault);
+      }
+
+section-gone : (k : Kind) (ws : List ℕ) (q : ℕ) → length ws ≡ 0 → SectionFault k ws q → ⊥
+section-gone k [] q z f = omega (arith, f .fault .among)
+section-gone k (w ∷ ws) q z f = omega arith
+
+sections-tell : (ks : List Kind) → ((j : ℕ) → j < length ks → Deep (getD ks j variables)) → (ws : List ℕ)
+    → Tells (SectionsFault ks ws) (sectionAt ks (length ks) ws) (length ws) (sections ks ws)
+unfolding sectionAt sections
+sections-tell [] deep ws = (refl, (omega arith, λ q f. omega (arith, f .among)))
+sections-tell (k ∷ ks) deep ws =
+    same-faults (Either (SectionFault k ws) (After k ks ws) (sectionSize k ws)) (SectionsFault (k ∷ ks) ws)
+    (sectionAt (k ∷ ks) (suc (length ks)) ws) (length ws) (sections (k ∷ ks) ws)
+    (sections-join k ks ws) (sections-split k ks ws)
+    (then-tells (SectionFault k ws) (After k ks ws) (sectionSize k ws)
+    (sectionAt ks (length ks) (drop (sectionSize k ws) ws)) (sectionAt (k ∷ ks) (suc (length ks)) ws) (length ws)
+    (length (drop (sectionSize k ws) ws)) refl (length-drop (sectionSize k ws) ws)
+    (section k ws) (λ p. sections ks (drop p ws)) (section-tells k (deep 0 (omega arith)) ws)
+    (λ l. sections-tell ks (λ j h. deep (suc j) (omega arith)) (drop (sectionSize k ws) ws))
+    (λ l r x.
+    section-gone _ _ (x .place)
+    (rw (drop-drop (sectionAt ks (x .nth) (drop (sectionSize k ws) ws)) (sectionSize k ws) ws, length-drop)
+    (omega arith))
+    (x .fault)))
+
+-- What is claimed of the check of a book: the byte reported is a fault, and none is lower; a sound book has none.
+pub record Lowest (bytes : List ℕ) (b : ℕ) : Type 0 where
+  pub applies : BookFault bytes b
+  pub least : (c : ℕ) → BookFault bytes c → b ≤ c
+
+abbrev Claims : List ℕ → Checked → Type 0
+Claims bytes sound = (b : ℕ) → BookFault bytes b → ⊥
+Claims bytes (brokenAt b) = Lowest bytes b
+
+-- a book that is not too long
+module _ (bytes : List ℕ) (fits : length bytes ≤ largestBook) where
+  abbrev Said : Walk → Type 0
+  Said = Tells (SectionsFault kinds (numbersOf bytes)) (bookEnd bytes) (length (numbersOf bytes))
+
+  -- a fault of a number at a byte below c, and what stands at the end no lower
+  bounded : (b c : ℕ) → ((q : ℕ) → SectionsFault kinds (numbersOf bytes) q → b ≤ 2 * q)
+      → (2 * bookEnd bytes < length bytes → b ≤ 2 * bookEnd bytes)
+      → (length (numbersOf bytes) < bookEnd bytes → b ≤ length bytes) → BookFault bytes c → b ≤ c
+  bounded b c n f m (tooLong l e) = omega arith
+  bounded b c n f m (wrongNumber l q e x) = omega (arith, n q x)
+  bounded b c n f m (follows l h e) = omega (arith, f h)
+  bounded b c n f m (missing l h e) = omega (arith, m h)
+
+  walked : (w : Walk) → Said w → Claims bytes (checkedAs (length bytes) w)
+  unfolding checkedAs
+  walked (ends p) t = go (ltb (2 * p) (length bytes)) refl
+    where
+      none : length bytes ≤ 2 * p → (c : ℕ) → BookFault bytes c → ⊥
+      none h c (tooLong l e) = omega arith
+      none h c (wrongNumber l q e x) = t .1 .1 q x
+      none h c (follows l g e) = omega (arith, t .0)
+      none h c (missing l g e) = omega (arith, t .1 .0)
+
+      go : (x : Bool) → ltb (2 * p) (length bytes) ≡ x → Claims bytes (cond x (brokenAt (2 * p)) sound)
+      go true h =
+          let past : 2 * p < length bytes = ltb-true (2 * p) (length bytes) h in
+          record {
+            applies = follows fits (rw (t .0) at past) (omega (arith, t .0));
+            least =
+                λ c. bounded (2 * p) c (λ q x. absurd (t .1 .1 q x)) (λ g. omega (arith, t .0)) (λ g. omega arith);
+          }
+      go false h = none (ltb-false (2 * p) (length bytes) h)
+  walked (broken p) t =
+      record {
+        applies = wrongNumber fits p refl (t .0);
+        least =
+            λ c.
+            bounded (2 * p) c (λ q x. omega (arith, t .1 .1 .1 q x)) (λ g. omega (arith, t .1 .0))
+            (λ g. omega (arith, t .1 .1 .0, numbers-low bytes));
+      }
+  walked short t =
+      record {
+        applies = missing fits (t .0) refl;
+        least =
+            λ c.
+            bounded (length bytes) c (λ q x. absurd (t .1 q x)) (λ g. omega (arith, t .0, numbers-high bytes))
+            (λ g. omega arith);
+      }
+
+only-too-long : (bytes : List ℕ) → largestBook < length bytes → (c : ℕ) → BookFault bytes c → largestBook ≤ c
+only-too-long bytes h c (tooLong l e) = omega arith
+only-too-long bytes h c (wrongNumber l q e x) = omega arith
+only-too-long bytes h c (follows l g e) = omega arith
+only-too-long bytes h c (missing l g e) = omega arith
+
+book-claims : (bytes : List ℕ) → Claims bytes (checkBook bytes)
+unfolding checkBook
+book-claims bytes = go (ltb largestBook (length bytes)) refl
+  where
+    go : (x : Bool) → ltb largestBook (length bytes) ≡ x
+        → Claims bytes (cond x (brokenAt largestBook) (checkedAs (length bytes) (sections kinds (numbersOf bytes))))
+    go true h =
+        let long : largestBook < length bytes = ltb-true largestBook (length bytes) h in
+        record { applies = tooLong long refl; least = only-too-long bytes long }
+    go false h =
+        walked bytes (ltb-false largestBook (length bytes) h) (sections kinds (numbersOf bytes))
+        (sections-tell kinds (λ j l. (key-there j l, entry-deep j l)) (numbersOf bytes))
+
+pub lowest : (bytes : List ℕ) (b : ℕ) → checkBook bytes ≡ brokenAt b → Lowest bytes b
+lowest bytes b e = rw e at (book-claims bytes)
+
+pub sound-has-none : (bytes : List ℕ) → checkBook bytes ≡ sound → (b : ℕ) → BookFault bytes b → ⊥
+sound-has-none bytes e = rw e at (book-claims bytes)

@@ -1,0 +1,79 @@
+-- Document 01, 'Plan book': what is wrong with a book, as a predicate on its bytes with no check in it.
+-- Definitions only.
+-- Where sections and entries stand goes by counts and sizes alone, whether or not the numbers before them are right.
+-- Places are counted in numbers from the start of a stretch; `BookFault` turns them into bytes.
+use Prim.Native.Nat.{ℕ, zero, suc, _+_, _*_, _≤_, _<_}
+use mathlib.Core.Path.{_≡_}
+use mathlib.Core.Bool.{false}
+use mathlib.Core.List.{List, [], _∷_}
+use lib.ListN.{length, getD, take, drop}
+use Rattle.rules.specs.Numbers.{numbersOf}
+use Rattle.rules.specs.Book.{Kind, within, anything, sizeOf, keyOf, rises, kinds, variables, largestBook}
+
+-- where the entry that is i-th from the first starts: each has its size
+unfoldable pub entryAt : Kind → ℕ → List ℕ → ℕ
+entryAt k zero ws = 0
+entryAt k (suc i) ws = sizeOf k ws + entryAt k i (drop (sizeOf k ws) ws)
+
+-- the key of the entry before it; the first one has only what stood before the stretch
+unfoldable pub keyBefore : Kind → List ℕ → ℕ → List ℕ → List ℕ
+keyBefore k before zero ws = before
+keyBefore k before (suc i) ws = keyOf k (drop (entryAt k i ws) ws)
+
+-- how many numbers a section has: its count, and those of its entries
+abbrev pub sectionSize : Kind → List ℕ → ℕ
+sectionSize k ws = suc (entryAt k (getD ws 0 0) (drop 1 ws))
+
+-- where the section that is j-th from the first starts
+unfoldable pub sectionAt : List Kind → ℕ → List ℕ → ℕ
+sectionAt ks zero ws = 0
+sectionAt [] (suc j) ws = 0
+sectionAt (k ∷ ks) (suc j) ws = sectionSize k ws + sectionAt ks j (drop (sectionSize k ws) ws)
+
+-- What applies at place p of an entry e, after an entry with the key before.
+pub data EntryFault (k : Kind) (before e : List ℕ) (p : ℕ) : Type 0 where
+  -- "the start of a number out of range"
+  outOfRange : p < sizeOf k e → p < length e → within (getD (k .ranges) p anything) (getD e p 0) ≡ false
+      → EntryFault k before e p
+  -- "the later number where two numbers break a rule"
+  breaksRule : p < sizeOf k e → p < length e → k .rule (take p e) (getD e p 0) ≡ false → EntryFault k before e p
+  -- "the entry's first number where its whole key doesn't rise"
+  keyStays : p ≡ 0 → k .key ≤ length e → rises before (keyOf k e) ≡ false → EntryFault k before e p
+
+-- at place q of n entries
+pub record EntriesFault (k : Kind) (before : List ℕ) (n : ℕ) (ws : List ℕ) (q : ℕ) : Type 0 where
+  pub nth : ℕ
+  pub among : nth < n
+  pub place : ℕ
+  pub stands : q ≡ entryAt k nth ws + place
+  pub fault : EntryFault k (keyBefore k before nth ws) (drop (entryAt k nth ws) ws) place
+
+-- at place q of a section: past its count, of its entries, the first of which has no key before it
+pub record SectionFault (k : Kind) (ws : List ℕ) (q : ℕ) : Type 0 where
+  pub place : ℕ
+  pub stands : q ≡ suc place
+  pub fault : EntriesFault k [] (getD ws 0 0) (drop 1 ws) place
+
+-- at place q of sections in their order
+pub record SectionsFault (ks : List Kind) (ws : List ℕ) (q : ℕ) : Type 0 where
+  pub nth : ℕ
+  pub among : nth < length ks
+  pub place : ℕ
+  pub stands : q ≡ sectionAt ks nth ws + place
+  pub fault : SectionFault (getD ks nth variables) (drop (sectionAt ks nth ws) ws) place
+
+-- where the fourth section ends
+abbrev pub bookEnd : List ℕ → ℕ
+bookEnd bytes = sectionAt kinds (length kinds) (numbersOf bytes)
+
+-- What applies at byte b of a book.
+pub data BookFault (bytes : List ℕ) (b : ℕ) : Type 0 where
+  -- "A book over 32,768 bytes answers 12 at 32,768", whatever else is wrong with it.
+  tooLong : largestBook < length bytes → b ≡ largestBook → BookFault bytes b
+  -- a number out of range, the later of two that break a rule, a key that does not rise
+  wrongNumber : length bytes ≤ largestBook → (q : ℕ) → b ≡ 2 * q → SectionsFault kinds (numbersOf bytes) q
+      → BookFault bytes b
+  -- "the first byte after the fourth section"
+  follows : length bytes ≤ largestBook → 2 * bookEnd bytes < length bytes → b ≡ 2 * bookEnd bytes → BookFault bytes b
+  -- "the book's length where a number is missing or half there"
+  missing : length bytes ≤ largestBook → length (numbersOf bytes) < bookEnd bytes → b ≡ length bytes → BookFault bytes b
