@@ -4,6 +4,7 @@ pub mod Append
 pub mod Bounded
 pub mod Checks
 pub mod Diff
+pub mod Faults
 pub mod Histories
 pub mod Landing
 pub mod Numbers
@@ -14,5 +15,4 @@ pub mod Steps
 pub mod Tables
 pub mod Walks
 pub mod Window
-pub mod Faults
 pub mod Worked
