@@ -80,8 +80,8 @@ follow down letter next = next (letter + 1)
 follow up letter next = next (letter - 1)
 follow (number ac) letter next = landed letter ac
 
--- "follow arrows until a box holds a number, and that letter gives the size": from a letter, with so many arrows left
--- after the first
+-- "follow arrows until a box holds a number, and that letter gives the size": from a letter, with so many arrows left;
+-- from the letters A to R they end in time (proofs/Tables)
 unfoldable pub landing : ℕ → ℕ → ℕ → ℕ → Landing
 landing zero severity column letter = follow (boxAt severity column letter) letter (λ next. landed next 0)
 landing (suc left) severity column letter = follow (boxAt severity column letter) letter (landing left severity column)
@@ -110,7 +110,8 @@ planAt lot l = record { letter = l .letter; n = cutTo lot (getD sizes (l .letter
 unfoldable pub tablePlan : ℕ → ℕ → ℕ → ℕ → Plan
 tablePlan severity size level column = planAt size (landingOf severity column (letterOf size level))
 
--- "the Ac one column tighter at the letter that gives the size", normal inspection; an arrow has none
+-- "the Ac one column tighter at the letter that gives the size", normal inspection; where it is asked for, Ac 2 or more,
+-- the box holds a number (proofs/Tables)
 abbrev pub acOf : Box → ℕ
 acOf down = 0
 acOf up = 0
