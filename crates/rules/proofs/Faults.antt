@@ -14,8 +14,9 @@ use Rattle.rules.specs.Numbers.{numbersOf}
 use Rattle.rules.specs.Book.{Walk, ends, broken, short, shift, thenFrom, Kind, right, numbersFrom, sizeOf}
 use Rattle.rules.specs.Book.{within, anything, keyOf, rises, keyFalls, entry, entries, section, sections}
 use Rattle.rules.specs.Book.{kinds, variables, largestBook, Checked, sound, brokenAt, checkedAs, checkBook}
-use Rattle.rules.specs.Faults.{entryAt, keyBefore, sectionSize, sectionAt, EntryFault, outOfRange, breaksRule}
-use Rattle.rules.specs.Faults.{keyStays, EntriesFault, SectionFault, SectionsFault, bookEnd, BookFault, tooLong}
+use Rattle.rules.specs.Layout.{entryAt, keyBefore, sectionSize, sectionAt, bookEnd}
+use Rattle.rules.specs.Faults.{EntryFault, outOfRange, breaksRule}
+use Rattle.rules.specs.Faults.{keyStays, EntriesFault, SectionFault, SectionsFault, BookFault, tooLong}
 use Rattle.rules.specs.Faults.{wrongNumber, follows, missing}
 use Rattle.rules.proofs.Bounded.{by-le}
 use Rattle.rules.proofs.Numbers.{numbers-low, numbers-high}
@@ -23,7 +24,7 @@ use Rattle.rules.proofs.SectionKinds.{key-there, entry-deep}
 
 -- What a walk tells of a stretch of l numbers whose layout has s, with the faults F: it ends after those s, with no
 -- fault; it is broken at the lowest fault; or there are fewer than s, with no fault.
-abbrev Tells : (ℕ → Type 0) → ℕ → ℕ → Walk → Type 0
+abbrev pub Tells : (ℕ → Type 0) → ℕ → ℕ → Walk → Type 0
 Tells F s l (ends p) = (p ≡ s) × ((s ≤ l) × ((q : ℕ) → F q → ⊥))
 Tells F s l (broken p) = F p × ((p < s) × ((p < l) × ((q : ℕ) → F q → p ≤ q)))
 Tells F s l short = (l < s) × ((q : ℕ) → F q → ⊥)
@@ -73,10 +74,10 @@ module _ (F G : ℕ → Type 0) (s t u l m : ℕ) (whole : u ≡ s + t) (left : 
       none q (later r e x) = c (a .0) r x
 
 -- the numbers of an entry that are not right, from place i to place s
-abbrev Wrong : Kind → List ℕ → ℕ → ℕ → ℕ → Type 0
+abbrev pub Wrong : Kind → List ℕ → ℕ → ℕ → ℕ → Type 0
 Wrong k e i s q = (i ≤ q) × ((q < s) × ((q < length e) × (right k e q ≡ false)))
 
-numbers-tell : (k : Kind) (e : List ℕ) (n i s : ℕ) → s ≡ i + n → i ≤ length e
+pub numbers-tell : (k : Kind) (e : List ℕ) (n i s : ℕ) → s ≡ i + n → i ≤ length e
     → Tells (Wrong k e i s) s (length e) (numbersFrom k e n i)
 unfolding numbersFrom
 numbers-tell k e zero i s z h = (omega arith, (omega arith, λ q w. omega (arith, w .0, w .1 .0)))
@@ -102,7 +103,7 @@ numbers-tell k e (suc n) i s z h =
         let l : length e ≤ i = ltb-false i (length e) t in
         (omega arith, λ q w. omega (arith, w .0, w .1 .1 .0))
 
-wrong-is : (k : Kind) (before e : List ℕ) (q : ℕ) → Wrong k e 0 (sizeOf k e) q → EntryFault k before e q
+pub wrong-is : (k : Kind) (before e : List ℕ) (q : ℕ) → Wrong k e 0 (sizeOf k e) q → EntryFault k before e q
 unfolding right
 wrong-is k before e q w = go (within (getD (k .ranges) q anything) (getD e q 0)) refl (w .1 .1 .1)
   where
@@ -130,10 +131,10 @@ fallen k before e t = go (leb (k .key) (length e)) refl t
     go false p r = absurd (true≢false (sym r))
 
 -- what the theorem asks of a kind: a key, and entries longer than it
-abbrev Deep : Kind → Type 0
+abbrev pub Deep : Kind → Type 0
 Deep k = (0 < k .key) × ((x : ℕ) → k .key < k .size x)
 
-entry-tells : (k : Kind) → Deep k → (before e : List ℕ)
+pub entry-tells : (k : Kind) → Deep k → (before e : List ℕ)
     → Tells (EntryFault k before e) (sizeOf k e) (length e) (entry k before e)
 unfolding entry
 entry-tells k deep before e = go (keyFalls k before e) refl
@@ -156,8 +157,8 @@ entry-gone k deep before e p z (outOfRange a b r) = omega arith
 entry-gone k deep before e p z (breaksRule a b r) = omega arith
 entry-gone k deep before e p z (keyStays q a r) = omega (arith, deep .0)
 
--- the key before the entry after next, seen from the next entry
-key-next : (k : Kind) (before ws : List ℕ) (i : ℕ)
+-- the key before an entry, seen from the entry after the first
+pub key-next : (k : Kind) (before ws : List ℕ) (i : ℕ)
     → keyBefore k before (suc i) ws ≡ keyBefore k (keyOf k ws) i (drop (sizeOf k ws) ws)
 unfolding entryAt keyBefore
 key-next k before ws zero = refl
@@ -221,7 +222,7 @@ entries-tell k deep (suc n) before ws =
     (rw (drop-drop (entryAt k (x .nth) (drop (sizeOf k ws) ws)) (sizeOf k ws) ws, length-drop) (omega arith))
     (x .fault)))
 
-section-tells : (k : Kind) → Deep k → (ws : List ℕ)
+pub section-tells : (k : Kind) → Deep k → (ws : List ℕ)
     → Tells (SectionFault k ws) (sectionSize k ws) (length ws) (section k ws)
 unfolding section thenFrom
 section-tells k deep [] = (omega arith, λ q f. omega (arith, f .fault .among))

@@ -7,6 +7,7 @@ pub mod Diff
 pub mod Faults
 pub mod Histories
 pub mod Landing
+pub mod LookUp
 pub mod Numbers
 pub mod Range
 pub mod SampleSteps

@@ -13,6 +13,13 @@ use lib.Dec.{ltb}
 use Rattle.rules.specs.Book.{Walk, ends, broken, short, shift, thenFrom, Kind, right, numbersFrom, sizeOf}
 use Rattle.rules.specs.Book.{keyOf, keyFalls, entry, entries, section, sections}
 
+-- a walk that is broken or lacks a number does not end
+pub broken-no-end : {P : Type 0} {q p : ℕ} → broken q ≡ ends p → P
+broken-no-end e = let z : _≡_ {A = ℕ} 0 1 = cc in let y : ⊥ = omega arith in absurd y
+
+pub short-no-end : {P : Type 0} {p : ℕ} → short ≡ ends p → P
+short-no-end e = let z : _≡_ {A = ℕ} 0 1 = cc in let y : ⊥ = omega arith in absurd y
+
 pub shift-zero : (w : Walk) → shift 0 w ≡ w
 unfolding shift
 shift-zero (ends p) = ap ends (zero-add p)
@@ -36,15 +43,15 @@ from-ends k e (suc n) i s h p = go (from-ends k e n (suc i) s) (ltb i (length e)
         → ltb i (length e) ≡ x → cond x (cond y (numbersFrom k e n (suc i)) (broken i)) short ≡ ends s
         → (s ≤ length e) × (s ≡ suc n + i)
     go ih true true t q = let r = ih (ltb-true _ _ t) q in (r .0, omega arith)
-    go ih true false t q = let z : _≡_ {A = ℕ} 0 1 = cc in (omega arith, omega arith)
-    go ih false y t q = let z : _≡_ {A = ℕ} 0 1 = cc in (omega arith, omega arith)
+    go ih true false t q = broken-no-end q
+    go ih false y t q = short-no-end q
 
 pub entry-ends : (k : Kind) (before e : List ℕ) (s : ℕ) → entry k before e ≡ ends s → (s ≤ length e) × (s ≡ sizeOf k e)
 unfolding entry
 entry-ends k before e s p = go (keyFalls k before e) p
   where
     go : (x : Bool) → cond x (broken 0) (numbersFrom k e (sizeOf k e) 0) ≡ ends s → (s ≤ length e) × (s ≡ sizeOf k e)
-    go true q = let z : _≡_ {A = ℕ} 0 1 = cc in (omega arith, omega arith)
+    go true q = broken-no-end q
     go false q = let r = from-ends k e (sizeOf k e) 0 s (omega arith) q in (r .0, omega arith)
 
 -- every walk's place is within its numbers

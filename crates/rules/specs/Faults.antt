@@ -1,34 +1,14 @@
 -- Document 01, 'Plan book': what is wrong with a book, as a predicate on its bytes with no check in it.
 -- Definitions only.
--- Where sections and entries stand goes by counts and sizes alone, whether or not the numbers before them are right.
 -- Places are counted in numbers from the start of a stretch; `BookFault` turns them into bytes.
-use Prim.Native.Nat.{ℕ, zero, suc, _+_, _*_, _≤_, _<_}
+use Prim.Native.Nat.{ℕ, suc, _+_, _*_, _≤_, _<_}
 use mathlib.Core.Path.{_≡_}
 use mathlib.Core.Bool.{false}
-use mathlib.Core.List.{List, [], _∷_}
+use mathlib.Core.List.{List, []}
 use lib.ListN.{length, getD, take, drop}
 use Rattle.rules.specs.Numbers.{numbersOf}
 use Rattle.rules.specs.Book.{Kind, within, anything, sizeOf, keyOf, rises, kinds, variables, largestBook}
-
--- where the entry that is i-th from the first starts: each has its size
-unfoldable pub entryAt : Kind → ℕ → List ℕ → ℕ
-entryAt k zero ws = 0
-entryAt k (suc i) ws = sizeOf k ws + entryAt k i (drop (sizeOf k ws) ws)
-
--- the key of the entry before it; the first one has only what stood before the stretch
-unfoldable pub keyBefore : Kind → List ℕ → ℕ → List ℕ → List ℕ
-keyBefore k before zero ws = before
-keyBefore k before (suc i) ws = keyOf k (drop (entryAt k i ws) ws)
-
--- how many numbers a section has: its count, and those of its entries
-abbrev pub sectionSize : Kind → List ℕ → ℕ
-sectionSize k ws = suc (entryAt k (getD ws 0 0) (drop 1 ws))
-
--- where the section that is j-th from the first starts
-unfoldable pub sectionAt : List Kind → ℕ → List ℕ → ℕ
-sectionAt ks zero ws = 0
-sectionAt [] (suc j) ws = 0
-sectionAt (k ∷ ks) (suc j) ws = sectionSize k ws + sectionAt ks j (drop (sectionSize k ws) ws)
+use Rattle.rules.specs.Layout.{entryAt, keyBefore, sectionAt, bookEnd}
 
 -- What applies at place p of an entry e, after an entry with the key before.
 pub data EntryFault (k : Kind) (before e : List ℕ) (p : ℕ) : Type 0 where
@@ -61,10 +41,6 @@ pub record SectionsFault (ks : List Kind) (ws : List ℕ) (q : ℕ) : Type 0 whe
   pub place : ℕ
   pub stands : q ≡ sectionAt ks nth ws + place
   pub fault : SectionFault (getD ks nth variables) (drop (sectionAt ks nth ws) ws) place
-
--- where the fourth section ends
-abbrev pub bookEnd : List ℕ → ℕ
-bookEnd bytes = sectionAt kinds (length kinds) (numbersOf bytes)
 
 -- What applies at byte b of a book.
 pub data BookFault (bytes : List ℕ) (b : ℕ) : Type 0 where

@@ -11,6 +11,7 @@ pub mod Severity
 pub mod Reading
 pub mod History
 pub mod Book
+pub mod Layout
 pub mod Faults
 pub mod Entries
 pub mod Ascii
