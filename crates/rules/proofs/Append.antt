@@ -2,23 +2,18 @@
 -- stands that much further on.
 -- Assumes nothing.
 use Prim.Native.Nat.{ℕ, _+_}
-use mathlib.Core.Path.{_≡_, refl}
+use mathlib.Core.Path.{_≡_, refl, sym, _∙_}
 use mathlib.Core.List.{List, [], _∷_, _++_}
-use native.Mathlib.Omega.{arith}
-use lib.ListN.{length}
+use lib.ListN.{length, length-append}
 use Rattle.rules.specs.Refusals.{Answer, refused, given, andThen}
 use Rattle.rules.specs.Severity.{Event, Record, step}
 use Rattle.rules.specs.History.{placed, afterFrom}
-use Rattle.rules.proofs.Answers.{then-given, placed-given}
+use Rattle.rules.proofs.Answers.{refused-given, then-given, placed-given}
 
 -- a refusal k places further on
 abbrev pub furtherOn : {A : Type 0} → ℕ → Answer A → Answer A
 furtherOn k (refused n p) = refused n (p + k)
 furtherOn k (given a) = given a
-
-length-append : (later es : List Event) → length (later ++ es) ≡ length later + length es
-length-append [] es = omega arith
-length-append (e ∷ later) es = omega (arith, length-append later es)
 
 goes-on : (k i : ℕ) (e : Event) (a : Answer Record)
     → andThen (furtherOn k a) (λ t. placed (i + k) (step t e)) ≡ furtherOn k (andThen a (λ t. placed i (step t e)))
@@ -59,3 +54,18 @@ pub and-one-event : (r u t : Record) (e : Event) (es : List Event) → afterFrom
     → afterFrom r (e ∷ es) ≡ given t
 unfolding afterFrom
 and-one-event r u t e es h q = rw (h, q)
+
+-- the two stretches of a history that is not refused are not refused, and the other way round
+pub stretches : (r t : Record) (later es : List Event) → afterFrom r (later ++ es) ≡ given t
+    → (u : Record) × (afterFrom r es ≡ given u) × (afterFrom u later ≡ given t)
+stretches r t later es q =
+    let w = then-given (afterFrom r es) _ t (sym (append r later es) ∙ q) in
+    (w .0, w .1, go (afterFrom (w .0) later) (w .2))
+  where
+    go : (a : Answer Record) → furtherOn (length es) a ≡ given t → a ≡ given t
+    go (refused n p) e = absurd (refused-given e)
+    go (given u) e = e
+
+pub and-later : (r u t : Record) (later es : List Event) → afterFrom r es ≡ given u → afterFrom u later ≡ given t
+    → afterFrom r (later ++ es) ≡ given t
+and-later r u t later es h q = append r later es ∙ rw (h, q)

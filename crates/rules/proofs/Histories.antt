@@ -1,10 +1,9 @@
--- A history of bytes, byte by byte: what the record, the answer and the lent buffer are after the first i bytes; and
--- the bytes of a whole history are its events, turned round.
+-- A history of bytes, byte by byte: what the record, the answer and the lent buffer are after the first i bytes.
 -- Assumes nothing.
 use Prim.Native.Nat.{ℕ, zero, suc, _+_, _≤_, _<_}
 use mathlib.Core.Path.{_≡_, refl, sym, ap, _∙_}
 use mathlib.Core.Bool.{true}
-use mathlib.Core.List.{List, [], _∷_, _++_, map, reverse, reverseAux, append-assoc, append-nil}
+use mathlib.Core.List.{List}
 use mathlib.Core.Logic.{_⊎_, inl, inr}
 use native.Mathlib.Decide.{le-ind}
 use native.Mathlib.Nat.{eq-or-lt-of-le}
@@ -14,7 +13,8 @@ use borrow.Author.Tests.{lt-ltb, le-ltb}
 use lib.ListN.{length, getD, set, length-set}
 use lib.Seq.{getD-set-same, getD-set-other}
 use Rattle.rules.specs.Refusals.{Answer, refused, given, andThen, bufferShort}
-use Rattle.rules.specs.Severity.{Event, Record, fresh, step, inRange}
+use Rattle.rules.specs.Severity.{Record}
+use Rattle.rules.specs.Severity.{fresh, step, inRange}
 use Rattle.rules.specs.Reading.{severityRead}
 use Rattle.rules.specs.History.{Work, eventIn, placed, afterFrom, after, past, listed, written}
 use Rattle.rules.specs.Entries.{next}
@@ -133,19 +133,3 @@ module _ (w : Work) (h : List ℕ) where
     unfolding written
     written-past zero k m = refl
     written-past (suc i) k m = getD-set-other (written w h out i) i k _ 0 (omega arith) ∙ written-past i k (omega arith)
-
--- the history as it is written, oldest first
-past-cons : (w : Work) (a : ℕ) (h : List ℕ) (i : ℕ) → past w (a ∷ h) (suc i) ≡ past w h i ++ (eventIn w a ∷ [])
-unfolding past
-past-cons w a h zero = refl
-past-cons w a h (suc i) = ap (λ (l : List Event). eventIn w (getD h i 0) ∷ l) (past-cons w a h i)
-
-past-onto : (w : Work) (h : List ℕ) (r : List Event) → past w h (length h) ++ r ≡ reverseAux (map (eventIn w) h) r
-unfolding past
-past-onto w [] r = refl
-past-onto w (a ∷ h) r =
-    ap (λ (l : List Event). l ++ r) (past-cons w a h (length h))
-    ∙ (append-assoc (past w h (length h)) (eventIn w a ∷ []) r ∙ past-onto w h (eventIn w a ∷ r))
-
-pub past-whole : (w : Work) (h : List ℕ) → past w h (length h) ≡ reverse (map (eventIn w) h)
-past-whole w h = sym (append-nil (past w h (length h))) ∙ past-onto w h []

@@ -2,7 +2,9 @@ pub mod Agreement
 pub mod Answers
 pub mod Append
 pub mod Bounded
+pub mod Bytes
 pub mod Checks
+pub mod Demands
 pub mod Diff
 pub mod Faults
 pub mod Histories
@@ -10,9 +12,13 @@ pub mod Landing
 pub mod LookUp
 pub mod Numbers
 pub mod Range
+pub mod Resubmitted
+pub mod Runs
 pub mod SampleSteps
 pub mod SectionKinds
+pub mod Stays
 pub mod Steps
+pub mod Switches
 pub mod Tables
 pub mod Walks
 pub mod Window

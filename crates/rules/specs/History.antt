@@ -2,7 +2,7 @@
 use Prim.Native.Nat.{ℕ, zero, suc}
 use mathlib.Core.Bool.{Bool, true, false, cond, not}
 use mathlib.Core.List.{List, [], _∷_}
-use lib.Dec.{leb, ltb}
+use lib.Dec.{leb, ltb, eqb}
 use lib.ListN.{length, getD, set}
 use Rattle.rules.specs.Refusals.{Answer, refused, given, firstOf, _gives_, andThen, unknownForm, bufferShort}
 use Rattle.rules.specs.Severity.{Lot, addThree, addTwo, scoreZero, notAccepted, typed, Event, lot, resubmitted}
@@ -80,3 +80,8 @@ written w h out (suc i) = set (written w h out i) i (severityRead (w .permission
 abbrev pub leftIn : Answer ℕ → Work → List ℕ → List ℕ → List ℕ
 leftIn (refused n k) w h out = out
 leftIn (given m) w h out = written w h out m
+
+-- a history without its resubmitted bytes
+unfoldable pub withoutFours : List ℕ → List ℕ
+withoutFours [] = []
+withoutFours (b ∷ h) = cond (eqb b 4) (withoutFours h) (b ∷ withoutFours h)

@@ -153,3 +153,21 @@ staysBy e severity (y ∷ ys) =
 unfoldable pub staysIn : Bool → List Event → List Stay
 staysIn start [] = stayOf normal [] ∷ []
 staysIn start (e ∷ es) = staysBy e (severityRead start (e ∷ es)) (staysIn start es)
+
+-- "Resubmitted lots .. change nothing": a history without them, and the severities after the events that are left.
+abbrev pub isResubmitted : Event → Bool
+isResubmitted (lot o l) = false
+isResubmitted resubmitted = true
+isResubmitted (steadyIs b) = false
+isResubmitted (permissionIs b) = false
+isResubmitted corrective = false
+isResubmitted unknown = false
+
+unfoldable pub withoutResubmitted : List Event → List Event
+withoutResubmitted [] = []
+withoutResubmitted (e ∷ es) = cond (isResubmitted e) (withoutResubmitted es) (e ∷ withoutResubmitted es)
+
+unfoldable pub severitiesAt : (Event → Bool) → Bool → List Event → List ℕ
+severitiesAt left start [] = []
+severitiesAt left start (e ∷ es) =
+    cond (left e) (severityRead start (e ∷ es) ∷ severitiesAt left start es) (severitiesAt left start es)

@@ -8,6 +8,7 @@ use Rattle.rules.specs.Refusals.{Answer, refused, given, andThen}
 use Rattle.rules.specs.Verdict.{Verdict, Judged}
 use Rattle.rules.specs.Severity.{Lot, addThree, addTwo, scoreZero, notAccepted, Event, lot, resubmitted}
 use Rattle.rules.specs.Severity.{steadyIs, permissionIs, corrective, unknown, Record, fresh}
+use Rattle.rules.specs.Reading.{isResubmitted}
 use Rattle.rules.specs.History.{Work, eventOf, eventIn}
 use Rattle.rules.specs.Entries.{Asked, Offered, Closed, eventFor, singleCounts, stagedCounts, closeSingle}
 use Rattle.rules.specs.Entries.{closeStaged, closeTotal, next, judgeSequential, judgeVariables}
@@ -43,6 +44,20 @@ entered w r (total o d) = enteredBy o (singleCounts r o) (closeTotal r o d)
 entered w r (byte b) = enteredAs (eventIn w b) (next w r b)
 entered w r (sequential q book sample) = nothing
 entered w r (variables upper q book limit readings) = nothing
+
+-- a call that closes or types a resubmitted lot
+abbrev pub isResubmission : Work → Call → Bool
+isResubmission w (single o book sample) = o .again
+isResubmission w (staged o book sample) = o .again
+isResubmission w (total o d) = o .again
+isResubmission w (byte b) = isResubmitted (eventIn w b)
+isResubmission w (sequential q book sample) = false
+isResubmission w (variables upper q book limit readings) = false
+
+unfoldable pub withoutResubmissions : Work → List Call → List Call
+withoutResubmissions w [] = []
+withoutResubmissions w (c ∷ cs) =
+    cond (isResubmission w c) (withoutResubmissions w cs) (c ∷ withoutResubmissions w cs)
 
 abbrev pub recordBy : Record → Entered → Record
 recordBy r (enters e t) = t

@@ -1,0 +1,3 @@
+-- The mission's demands, each sentence a named theorem.
+-- Assumes nothing.
+pub mod Three

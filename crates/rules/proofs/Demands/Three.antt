@@ -1,0 +1,169 @@
+-- Demand 3, each sentence a theorem, of histories and of runs of calls. A history is its events, newest first; those
+-- of a history of bytes are `past w h (length h)`, the bytes' events turned round (`past-whole`). A run starts from a
+-- fresh record, and refused calls are dropped. For any permission at the start, and any work.
+-- Assumes nothing.
+use Prim.Native.Nat.{ℕ}
+use mathlib.Core.Path.{_≡_, sym, ap, _∙_}
+use mathlib.Core.Bool.{Bool, true, not}
+use mathlib.Core.List.{List, _∷_, _++_, map, reverse}
+use mathlib.Core.Logic.{_⊎_, inl, inr}
+use lib.ListN.{length}
+use Rattle.rules.specs.Refusals.{given}
+use Rattle.rules.specs.Codes.{reduced, stopped}
+use Rattle.rules.specs.Severity.{Event, resubmitted, corrective, Record, fresh, step, inRange}
+use Rattle.rules.specs.Reading.{severityRead, recordRead, staysIn, isResubmitted, withoutResubmitted}
+use Rattle.rules.specs.Reading.{severitiesAt}
+use Rattle.rules.specs.History.{Work, eventOf, eventIn, afterFrom, after, past, afterHistory, withoutFours}
+use Rattle.rules.specs.Runs.{Call, byte, entered, isResubmission, withoutResubmissions, recordBy, ran}
+use Rattle.rules.specs.Runs.{eventsRan, bytesRan}
+use Rattle.rules.proofs.Range.{fresh-range, step-range, after-range}
+use Rattle.rules.proofs.Agreement.{agree, severity-agrees}
+use Rattle.rules.proofs.Stays.{Every, AtMost25, tightened-stays}
+use Rattle.rules.proofs.Switches.{stopped-left, ReducedStarts, reduced-starts}
+use Rattle.rules.proofs.Resubmitted.{left-severities, without-resubmitted, resubmitted-in, resubmitted-reads}
+use Rattle.rules.proofs.Bytes.{past-whole, past-append, past-put-in, past-without}
+use Rattle.rules.proofs.Runs.{ran-agrees, ran-agrees-bytes, ran-resubmitted, ran-without, OneCall, one-call}
+use Rattle.rules.proofs.Runs.{call-range}
+
+-- 1. The record folded over any history not refused has the severity of the written reading, and all its figures.
+module _ (start : Bool) (es : List Event) (r : Record) (q : after start es ≡ given r) where
+  pub history-severity : r .severity ≡ severityRead start es
+  history-severity = severity-agrees start es r q
+
+  pub history-record : r ≡ recordRead start es
+  history-record = agree start es r q
+
+pub bytes-record : (w : Work) (h : List ℕ) (r : Record) → afterHistory w h ≡ given r
+    → r ≡ recordRead (w .permission) (reverse (map (eventIn w) h))
+bytes-record w h r q =
+    agree (w .permission) (past w h (length h)) r q ∙ ap (recordRead (w .permission)) (past-whole w h)
+
+module _ (w : Work) (cs : List Call) where
+  pub run-severity : ran w cs .severity ≡ severityRead (w .permission) (eventsRan w cs)
+  run-severity = severity-agrees (w .permission) (eventsRan w cs) (ran w cs) (ran-agrees w cs)
+
+  pub run-record : ran w cs ≡ recordRead (w .permission) (eventsRan w cs)
+  run-record = agree (w .permission) (eventsRan w cs) (ran w cs) (ran-agrees w cs)
+
+  -- of the bytes that the calls stand for
+  pub run-record-bytes : ran w cs ≡ recordRead (w .permission) (map eventOf (bytesRan w cs))
+  run-record-bytes = agree (w .permission) (map eventOf (bytesRan w cs)) (ran w cs) (ran-agrees-bytes w cs)
+
+-- 2. A tightened stay holds at most 25 original lots and at most five not accepted: every stay of the history.
+pub history-tightened : (start : Bool) (es : List Event) → Every AtMost25 (staysIn start es)
+history-tightened start es = tightened-stays start es
+
+pub run-tightened : (w : Work) (cs : List Call) → Every AtMost25 (staysIn (w .permission) (eventsRan w cs))
+run-tightened w cs = tightened-stays (w .permission) (eventsRan w cs)
+
+-- 3. Stopped is left only by a corrective order.
+pub history-stopped : (start : Bool) (e : Event) (es : List Event) → severityRead start es ≡ stopped
+    → (severityRead start (e ∷ es) ≡ stopped) ⊎ (e ≡ corrective)
+history-stopped start e es h = stopped-left start e es h
+
+-- the severity after one call that entered an event
+after-call : (w : Work) (c : Call) (cs : List Call) (e : Event) → eventsRan w (c ∷ cs) ≡ e ∷ eventsRan w cs
+    → ran w (c ∷ cs) .severity ≡ severityRead (w .permission) (e ∷ eventsRan w cs)
+after-call w c cs e q = run-severity w (c ∷ cs) ∙ ap (severityRead (w .permission)) q
+
+pub run-stopped : (w : Work) (c : Call) (cs : List Call) → ran w cs .severity ≡ stopped
+    → (ran w (c ∷ cs) .severity ≡ stopped) ⊎ (c ≡ byte 9)
+run-stopped w c cs h = go (one-call w c cs)
+  where
+    left : (e : Event) → eventsRan w (c ∷ cs) ≡ e ∷ eventsRan w cs → (e ≡ corrective → c ≡ byte 9)
+        → (severityRead (w .permission) (e ∷ eventsRan w cs) ≡ stopped) ⊎ (e ≡ corrective)
+        → (ran w (c ∷ cs) .severity ≡ stopped) ⊎ (c ≡ byte 9)
+    left e q f (inl s) = inl (after-call w c cs e q ∙ s)
+    left e q f (inr s) = inr (f s)
+
+    go : OneCall w c cs
+        → (ran w (c ∷ cs) .severity ≡ stopped) ⊎ (c ≡ byte 9)
+    go (inl q) = inl (ap (λ (r : Record). r .severity) q ∙ h)
+    go (inr x) =
+        left (x .0) (x .1) (x .2)
+        (stopped-left (w .permission) (x .0) (eventsRan w cs) (sym (run-severity w cs) ∙ h))
+
+-- 4. When reduced starts, it was normal, steady and permission stand, and the last ten original lots of that normal
+-- stay were all accepted.
+pub history-reduced : (start : Bool) (e : Event) (es : List Event) → (severityRead start es ≡ reduced → ⊥)
+    → severityRead start (e ∷ es) ≡ reduced → ReducedStarts start e es
+history-reduced start e es n h = reduced-starts start e es n h
+
+pub run-reduced : (w : Work) (c : Call) (cs : List Call) → (ran w cs .severity ≡ reduced → ⊥)
+    → ran w (c ∷ cs) .severity ≡ reduced
+    → (e : Event) × (eventsRan w (c ∷ cs) ≡ e ∷ eventsRan w cs) × ReducedStarts (w .permission) e (eventsRan w cs)
+run-reduced w c cs n h = go (one-call w c cs)
+  where
+    go : OneCall w c cs
+        → (e : Event) × (eventsRan w (c ∷ cs) ≡ e ∷ eventsRan w cs) × ReducedStarts (w .permission) e (eventsRan w cs)
+    go (inl q) = absurd (n (ap (λ (r : Record). r .severity) (sym q) ∙ h))
+    go (inr x) = (
+      x .0,
+      x .1,
+      reduced-starts (w .permission) (x .0) (eventsRan w cs) (λ s. n (run-severity w cs ∙ s))
+          (sym (after-call w c cs (x .0) (x .1)) ∙ h),
+    )
+
+-- 5. If a history is not refused, then without its resubmitted lots it is not refused, leaves the same record, and has
+-- the same severities at the events that are left.
+pub history-without : (start : Bool) (es : List Event) (r : Record) → after start es ≡ given r
+    → (after start (withoutResubmitted es) ≡ given r)
+    × (severitiesAt (λ e. true) start (withoutResubmitted es) ≡ severitiesAt (λ e. not (isResubmitted e)) start es)
+history-without start es r q = (without-resubmitted (fresh start) r es q, left-severities start es)
+
+-- of bytes, where the work knows byte 4
+pub bytes-without : (w : Work) (h : List ℕ) (r : Record) → w .knows 4 ≡ true → afterHistory w h ≡ given r
+    → (afterHistory w (withoutFours h) ≡ given r)
+    × (severitiesAt (λ e. true) (w .permission) (past w (withoutFours h) (length (withoutFours h)))
+    ≡ severitiesAt (λ e. not (isResubmitted e)) (w .permission) (past w h (length h)))
+bytes-without w h r known q =
+    rw (past-without w known h) (history-without (w .permission) (past w h (length h)) r q)
+
+pub run-without : (w : Work) (cs : List Call)
+    → (ran w (withoutResubmissions w cs) ≡ ran w cs)
+    × (after (w .permission) (withoutResubmitted (eventsRan w cs)) ≡ given (ran w cs))
+    × (severitiesAt (λ e. true) (w .permission) (withoutResubmitted (eventsRan w cs))
+    ≡ severitiesAt (λ e. not (isResubmitted e)) (w .permission) (eventsRan w cs))
+run-without w cs =
+    let x = history-without (w .permission) (eventsRan w cs) (ran w cs) (ran-agrees w cs) in
+    (ran-without w cs, x .0, x .1)
+
+-- A resubmitted lot put in anywhere where the severity is not stopped refuses nothing of the rest and changes no
+-- severity of it: whatever comes later.
+pub history-put-in : (start : Bool) (later es : List Event) (r : Record) → (severityRead start es ≡ stopped → ⊥)
+    → after start (later ++ es) ≡ given r
+    → (after start (later ++ (resubmitted ∷ es)) ≡ given r)
+    × (severityRead start (later ++ (resubmitted ∷ es)) ≡ severityRead start (later ++ es))
+history-put-in start later es r n q = (resubmitted-in start r later es n q, resubmitted-reads start later es)
+
+pub bytes-put-in : (w : Work) (earlier later : List ℕ) (r : Record) → w .knows 4 ≡ true
+    → (severityRead (w .permission) (past w earlier (length earlier)) ≡ stopped → ⊥)
+    → afterHistory w (earlier ++ later) ≡ given r
+    → (afterHistory w (earlier ++ (4 ∷ later)) ≡ given r)
+    × (severityRead (w .permission) (past w (earlier ++ (4 ∷ later)) (length (earlier ++ (4 ∷ later))))
+    ≡ severityRead (w .permission) (past w (earlier ++ later) (length (earlier ++ later))))
+bytes-put-in w earlier later r known n q =
+    rw (past-put-in w known earlier later, past-append w earlier later)
+    (history-put-in (w .permission) (past w later (length later)) (past w earlier (length earlier)) r n
+    (rw (past-append w earlier later) at q))
+
+-- in a run a resubmitted lot that is refused is dropped, so that none changes a record of the rest
+pub run-put-in : (w : Work) (later : List Call) (c : Call) (cs : List Call) → isResubmission w c ≡ true
+    → ran w (later ++ (c ∷ cs)) ≡ ran w (later ++ cs)
+run-put-in w later c cs h = ran-resubmitted w later c cs h
+
+-- 6. A record in range stays in range: by one event, over a history from any record in range, by any call, and over a
+-- run.
+pub event-range : (r : Record) (e : Event) (t : Record) → inRange r ≡ true → step r e ≡ given t → inRange t ≡ true
+event-range r e t h q = step-range r e t h q
+
+pub history-range : (r : Record) (es : List Event) (t : Record) → inRange r ≡ true → afterFrom r es ≡ given t
+    → inRange t ≡ true
+history-range r es t h q = after-range r es t h q
+
+pub bench-range : (w : Work) (r : Record) (c : Call) → inRange r ≡ true → inRange (recordBy r (entered w r c)) ≡ true
+bench-range w r c h = call-range w r c h
+
+pub run-range : (w : Work) (cs : List Call) → inRange (ran w cs) ≡ true
+run-range w cs =
+    after-range (fresh (w .permission)) (eventsRan w cs) (ran w cs) (fresh-range (w .permission)) (ran-agrees w cs)

@@ -1,0 +1,217 @@
+-- A run of calls, refused calls dropped, is the history of the events that its calls stand for, and of their bytes.
+-- Assumes nothing.
+use Prim.Native.Nat.{suc}
+use mathlib.Core.Path.{_≡_, refl, sym, ap, _∙_}
+use mathlib.Core.Bool.{Bool, true, false, cond, not}
+use mathlib.Core.List.{List, [], _∷_, _++_, map}
+use native.Mathlib.Omega.{arith}
+use mathlib.Core.Logic.{_⊎_, inl, inr}
+use lib.ListN.{length}
+use Rattle.rules.specs.Refusals.{Answer, refused, given, andThen, unknownForm}
+use Rattle.rules.specs.Verdict.{Verdict, Judged}
+use Rattle.rules.specs.Severity.{sampled, Lot, addThree, addTwo, scoreZero, notAccepted, Event, lot}
+use Rattle.rules.specs.Severity.{resubmitted, steadyIs, permissionIs, corrective, unknown, Record, fresh, step}
+use Rattle.rules.specs.Severity.{inRange}
+use Rattle.rules.specs.History.{Work, eventOf, eventIn, placed, afterFrom, after}
+use Rattle.rules.specs.Book.{Checked, sound, brokenAt, checkBook, onSound}
+use Rattle.rules.specs.Entries.{Offered, askedOn, eventFor, singleCounts, stagedCounts, closedWith, onRecord}
+use Rattle.rules.specs.Entries.{judgeSingle, judgeStaged, judgeTotal, closeSingle, closeStaged, closeTotal}
+use Rattle.rules.specs.Entries.{next}
+use Rattle.rules.specs.Runs.{Call, single, staged, total, byte, sequential, variables, Entered, enters}
+use Rattle.rules.specs.Runs.{nothing, enteredBy, enteredAs, entered, isResubmission, withoutResubmissions}
+use Rattle.rules.specs.Runs.{recordBy, eventsBy, ran}
+use Rattle.rules.specs.Runs.{eventsRan, byteOf, bytesRan}
+use Rattle.rules.proofs.Append.{and-one-event}
+use Rattle.rules.proofs.Range.{step-range}
+use Rattle.rules.proofs.Resubmitted.{is-resubmitted, resubmitted-step}
+use Rattle.rules.proofs.Bytes.{lot-byte, corrective-byte}
+
+-- What is entered is what the event makes of the record, and the event is one of these.
+abbrev Enters : (Event → Type 0) → Record → Entered → Type 0
+Enters P r (enters e t) = (step r e ≡ given t) × P e
+Enters P r nothing = Unit {0}
+
+module _ (P : Event → Type 0) (r : Record) where
+  entered-as : (e : Event) → P e → Enters P r (enteredAs e (onRecord r (step r e)))
+  entered-as e p = go (inRange r) (step r e) refl
+    where
+      go : (d : Bool) (a : Answer Record) → step r e ≡ a
+          → Enters P r (enteredAs e (cond (not d) (refused unknownForm 0) a))
+      go true (refused n k) q = tt
+      go true (given t) q = (q, p)
+      go false a q = tt
+
+  module _ {Q : Type 0} (o : Offered) (counts : Judged Q Verdict → Lot) (p : (l : Lot) → P (eventFor o l)) where
+    judged-enters : (j : Answer (Judged Q Verdict))
+        → Enters P r (enteredBy o counts (onRecord r (andThen j (closedWith r o counts))))
+    judged-enters a = go (inRange r) a
+      where
+        with-step : (j : Judged Q Verdict) (a : Answer Record) → step r (eventFor o (counts j)) ≡ a
+            → Enters P r (enteredBy o counts (andThen a (λ t. given (record { judged = j; recordAfter = t }))))
+        with-step j (refused n k) q = tt
+        with-step j (given t) q = (q, p (counts j))
+
+        go : (d : Bool) (a : Answer (Judged Q Verdict))
+            → Enters P r (enteredBy o counts (cond (not d) (refused unknownForm 0) (andThen a (closedWith r o counts))))
+        go true (refused n k) = tt
+        go true (given j) = with-step j (step r (eventFor o (counts j))) refl
+        go false a = tt
+
+    sound-enters : (k : Checked) (j : Answer (Judged Q Verdict))
+        → Enters P r (enteredBy o counts (onSound k (onRecord r (andThen j (closedWith r o counts)))))
+    sound-enters sound j = judged-enters j
+    sound-enters (brokenAt b) j = tt
+
+-- the events that a call may stand for
+abbrev Stands : (Event → Type 0) → Work → Call → Type 0
+Stands P w (single o book sample) = (l : Lot) → P (eventFor o l)
+Stands P w (staged o book sample) = (l : Lot) → P (eventFor o l)
+Stands P w (total o d) = (l : Lot) → P (eventFor o l)
+Stands P w (byte b) = P (eventIn w b)
+Stands P w (sequential q book sample) = Unit {0}
+Stands P w (variables upper q book limit readings) = Unit {0}
+
+call-enters : (P : Event → Type 0) (w : Work) (r : Record) (c : Call) → Stands P w c → Enters P r (entered w r c)
+unfolding entered closeSingle closeStaged closeTotal next
+call-enters P w r (single o book sample) p =
+    sound-enters P r o (singleCounts r o) p (checkBook book) (judgeSingle (askedOn r o) book sample)
+call-enters P w r (staged o book sample) p =
+    sound-enters P r o (stagedCounts r o) p (checkBook book) (judgeStaged (askedOn r o) book sample)
+call-enters P w r (total o d) p = judged-enters P r o (singleCounts r o) p (judgeTotal (askedOn r o) d)
+call-enters P w r (byte b) p = entered-as P r (eventIn w b) p
+call-enters P w r (sequential q book sample) p = tt
+call-enters P w r (variables upper q book limit readings) p = tt
+
+anything : (w : Work) (c : Call) → Stands (λ e. Unit {0}) w c
+anything w (single o book sample) = λ l. tt
+anything w (staged o book sample) = λ l. tt
+anything w (total o d) = λ l. tt
+anything w (byte b) = tt
+anything w (sequential q book sample) = tt
+anything w (variables upper q book limit readings) = tt
+
+-- The record after any run from a fresh record is that after the events that its calls stand for, which are not
+-- refused.
+pub ran-agrees : (w : Work) (cs : List Call) → after (w .permission) (eventsRan w cs) ≡ given (ran w cs)
+unfolding afterFrom ran eventsRan
+ran-agrees w [] = refl
+ran-agrees w (c ∷ cs) =
+    go (ran-agrees w cs) (entered w (ran w cs) c) (call-enters (λ e. Unit {0}) w (ran w cs) c (anything w c))
+  where
+    go : after (w .permission) (eventsRan w cs) ≡ given (ran w cs) → (x : Entered)
+        → Enters (λ e. Unit {0}) (ran w cs) x
+        → after (w .permission) (eventsBy (eventsRan w cs) x) ≡ given (recordBy (ran w cs) x)
+    go h (enters e t) s = and-one-event _ (ran w cs) t e (eventsRan w cs) h (s .0)
+    go h nothing s = h
+
+-- An event typed as its byte: where it comes from does not matter to the record, nor to the written reading.
+abbrev typedAgain : List Event → List Event
+typedAgain es = map eventOf (map byteOf es)
+
+step-typed : (r : Record) (e : Event) → step r (eventOf (byteOf e)) ≡ step r e
+unfolding step eventOf
+step-typed r (lot o addThree) = refl
+step-typed r (lot o addTwo) = refl
+step-typed r (lot o scoreZero) = refl
+step-typed r (lot o notAccepted) = refl
+step-typed r resubmitted = refl
+step-typed r (steadyIs true) = refl
+step-typed r (steadyIs false) = refl
+step-typed r (permissionIs true) = refl
+step-typed r (permissionIs false) = refl
+step-typed r corrective = refl
+step-typed r unknown = refl
+
+length-typed : (es : List Event) → length (typedAgain es) ≡ length es
+length-typed [] = refl
+length-typed (e ∷ es) = ap suc (length-typed es)
+
+pub after-typed : (r : Record) (es : List Event) → afterFrom r (typedAgain es) ≡ afterFrom r es
+unfolding afterFrom
+after-typed r [] = refl
+after-typed r (e ∷ es) =
+    rw (after-typed r es, length-typed es) (go (afterFrom r es))
+  where
+    go : (a : Answer Record)
+        → andThen a (λ t. placed (length es) (step t (eventOf (byteOf e))))
+        ≡ andThen a (λ t. placed (length es) (step t e))
+    go (refused n k) = refl
+    go (given t) = ap (placed (length es)) (step-typed t e)
+
+-- The same of the bytes that the calls of a run stand for.
+pub ran-agrees-bytes : (w : Work) (cs : List Call)
+    → after (w .permission) (map eventOf (bytesRan w cs)) ≡ given (ran w cs)
+ran-agrees-bytes w cs = after-typed (fresh (w .permission)) (eventsRan w cs) ∙ ran-agrees w cs
+
+-- a call with a resubmitted lot stands for nothing else
+resubmission : (w : Work) (c : Call) → isResubmission w c ≡ true → Stands (λ e. e ≡ resubmitted) w c
+resubmission w (single o book sample) h = λ l. rw h
+resubmission w (staged o book sample) h = λ l. rw h
+resubmission w (total o d) h = λ l. rw h
+resubmission w (byte b) h = is-resubmitted (eventIn w b) h
+resubmission w (sequential q book sample) h = tt
+resubmission w (variables upper q book limit readings) h = tt
+
+-- A call with a resubmitted lot, put into a run or left out anywhere, changes no record of the rest.
+pub ran-resubmitted : (w : Work) (later : List Call) (c : Call) (cs : List Call) → isResubmission w c ≡ true
+    → ran w (later ++ (c ∷ cs)) ≡ ran w (later ++ cs)
+unfolding ran
+ran-resubmitted w [] c cs h =
+    go (entered w (ran w cs) c) (call-enters (λ e. e ≡ resubmitted) w (ran w cs) c (resubmission w c h))
+  where
+    go : (x : Entered) → Enters (λ e. e ≡ resubmitted) (ran w cs) x → recordBy (ran w cs) x ≡ ran w cs
+    go (enters e t) s = resubmitted-step (ran w cs) t e (s .1) (s .0)
+    go nothing s = refl
+ran-resubmitted w (d ∷ later) c cs h = rw (ran-resubmitted w later c cs h)
+
+-- So without all of them.
+pub ran-without : (w : Work) (cs : List Call) → ran w (withoutResubmissions w cs) ≡ ran w cs
+unfolding ran withoutResubmissions
+ran-without w [] = refl
+ran-without w (c ∷ cs) = go (isResubmission w c) refl (ran-without w cs)
+  where
+    go : (d : Bool) → isResubmission w c ≡ d → ran w (withoutResubmissions w cs) ≡ ran w cs
+        → ran w (cond d (withoutResubmissions w cs) (c ∷ withoutResubmissions w cs)) ≡ ran w (c ∷ cs)
+    go true h ih = ih ∙ sym (ran-resubmitted w [] c cs h)
+    go false h ih = rw ih
+
+-- only byte 9 stands for the corrective order
+not-corrective : (o : Offered) (l : Lot) → eventFor o l ≡ corrective → ⊥
+not-corrective o l h = go (o .again) (ap byteOf h)
+  where
+    go : (d : Bool) → byteOf (cond d resubmitted (lot sampled l)) ≡ 9 → ⊥
+    go true h = omega arith
+    go false h = omega (arith, lot-byte l)
+
+corrective-call : (w : Work) (c : Call) → Stands (λ e. e ≡ corrective → c ≡ byte 9) w c
+corrective-call w (single o book sample) = λ l h. absurd (not-corrective o l h)
+corrective-call w (staged o book sample) = λ l h. absurd (not-corrective o l h)
+corrective-call w (total o d) = λ l h. absurd (not-corrective o l h)
+corrective-call w (byte b) = λ h. ap byte (corrective-byte w b h)
+corrective-call w (sequential q book sample) = tt
+corrective-call w (variables upper q book limit readings) = tt
+
+-- One call more enters nothing, or one event; byte 9 alone enters the corrective order.
+abbrev pub OneCall : Work → Call → List Call → Type 0
+OneCall w c cs =
+    (ran w (c ∷ cs) ≡ ran w cs)
+    ⊎ ((e : Event) × (eventsRan w (c ∷ cs) ≡ e ∷ eventsRan w cs) × (e ≡ corrective → c ≡ byte 9))
+
+pub one-call : (w : Work) (c : Call) (cs : List Call) → OneCall w c cs
+unfolding ran eventsRan
+one-call w c cs =
+    go (entered w (ran w cs) c) (call-enters (λ e. e ≡ corrective → c ≡ byte 9) w (ran w cs) c (corrective-call w c))
+  where
+    go : (x : Entered) → Enters (λ e. e ≡ corrective → c ≡ byte 9) (ran w cs) x
+        → (recordBy (ran w cs) x ≡ ran w cs)
+        ⊎ ((e : Event) × (eventsBy (eventsRan w cs) x ≡ e ∷ eventsRan w cs) × (e ≡ corrective → c ≡ byte 9))
+    go (enters e t) s = inr (e, refl, s .1)
+    go nothing s = inl refl
+
+-- A call on a record in range leaves a record in range.
+pub call-range : (w : Work) (r : Record) (c : Call) → inRange r ≡ true → inRange (recordBy r (entered w r c)) ≡ true
+call-range w r c h = go (entered w r c) (call-enters (λ e. Unit {0}) w r c (anything w c))
+  where
+    go : (x : Entered) → Enters (λ e. Unit {0}) r x → inRange (recordBy r x) ≡ true
+    go (enters e t) s = step-range r e t h (s .0)
+    go nothing s = h

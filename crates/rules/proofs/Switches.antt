@@ -1,0 +1,167 @@
+-- Two switches of the written reading: stopped is left only by a corrective order, and what stands when reduced starts.
+-- Assumes nothing.
+use Prim.Native.Nat.{ℕ, zero, suc, _*_, _≤_}
+use mathlib.Core.Path.{_≡_, refl, ap, _∙_}
+use mathlib.Core.Bool.{Bool, true, false, cond, _&&_, not}
+use mathlib.Core.List.{List, [], _∷_}
+use mathlib.Core.Logic.{_⊎_, inl, inr}
+use native.Mathlib.Omega.{arith}
+use borrow.Author.Tests.{leb-true, ne-eqb}
+use lib.Dec.{leb}
+use lib.ListN.{length, take}
+use Rattle.rules.specs.Codes.{normal, tightened, reduced, stopped}
+use Rattle.rules.specs.Severity.{Lot, addThree, addTwo, scoreZero, notAccepted, accepted, Event, lot}
+use Rattle.rules.specs.Severity.{resubmitted, steadyIs, permissionIs, corrective, unknown}
+use Rattle.rules.specs.Reading.{steadyIn, permissionIn, notAcceptedIn, runOf, pointsOf, scoreOf, Stay, stayOf}
+use Rattle.rules.specs.Reading.{readSettled, readNormal, readTightened, readLot, readOrder, readEvent}
+use Rattle.rules.specs.Reading.{stayAfter, severityRead, lotsWith, staysIn}
+use Rattle.rules.proofs.Stays.{present-stay}
+
+stopped-event : (e : Event) (st pe : Bool) (s : ℕ) (ls : List Lot) → s ≡ stopped
+    → (readEvent e st pe (stayOf s ls) .severity ≡ stopped) ⊎ (e ≡ corrective)
+unfolding readEvent readLot readOrder
+stopped-event (lot o l) st pe s ls h = inl (rw h)
+stopped-event resubmitted st pe s ls h = inl h
+stopped-event (steadyIs b) st pe s ls h = inl (rw h)
+stopped-event (permissionIs b) st pe s ls h = inl (rw h)
+stopped-event corrective st pe s ls h = inr refl
+stopped-event unknown st pe s ls h = inl h
+
+-- Stopped is left only by a corrective order.
+pub stopped-left : (start : Bool) (e : Event) (es : List Event) → severityRead start es ≡ stopped
+    → (severityRead start (e ∷ es) ≡ stopped) ⊎ (e ≡ corrective)
+unfolding stayAfter
+stopped-left start e es h =
+    stopped-event e (steadyIn (e ∷ es)) (permissionIn start (e ∷ es)) (severityRead start es)
+    (stayAfter start es .lots) h
+
+-- points come from accepted lots alone, three at most for each
+points-run : (ls : List Lot) → pointsOf ls ≤ 3 * runOf ls
+unfolding pointsOf runOf
+points-run [] = omega arith
+points-run (addThree ∷ ls) = omega (arith, points-run ls)
+points-run (addTwo ∷ ls) = omega (arith, points-run ls)
+points-run (scoreZero ∷ ls) = omega arith
+points-run (notAccepted ∷ ls) = omega arith
+
+-- the last k of these lots were all accepted
+abbrev pub LastAccepted : ℕ → List Lot → Type 0
+LastAccepted k ls = (length (take k ls) ≡ k) × (notAcceptedIn (take k ls) ≡ 0)
+
+last-accepted : (k : ℕ) (ls : List Lot) → k ≤ runOf ls → LastAccepted k ls
+unfolding runOf notAcceptedIn
+last-accepted zero ls h = (refl, refl)
+last-accepted (suc k) [] h = absurd (omega arith)
+last-accepted (suc k) (l ∷ ls) h = go (accepted l) h (λ g. last-accepted k ls g)
+  where
+    go : (d : Bool) → suc k ≤ cond d (suc (runOf ls)) 0 → (k ≤ runOf ls → LastAccepted k ls)
+        → (suc (length (take k ls)) ≡ suc k)
+        × (cond d (notAcceptedIn (take k ls)) (suc (notAcceptedIn (take k ls))) ≡ 0)
+    go true h ih = let r = ih (omega arith) in (ap suc (r .0), r .1)
+    go false h ih = absurd (omega arith)
+
+-- normal with this severity, these lots, steady and permission turns to reduced
+abbrev Turns : ℕ → List Lot → Bool → Bool → Type 0
+Turns s ls st pe = (s ≡ normal) × (st ≡ true) × (pe ≡ true) × (10 ≤ runOf ls)
+
+settled-turns : (ls : List Lot) (st pe : Bool) → readSettled ls st pe .severity ≡ reduced → Turns normal ls st pe
+settled-turns ls st pe h = go (leb 30 (scoreOf ls)) refl st pe h
+  where
+    go : (d : Bool) → leb 30 (scoreOf ls) ≡ d → (st pe : Bool)
+        → cond (d && (st && pe)) (stayOf reduced []) (stayOf normal ls) .severity ≡ reduced → Turns normal ls st pe
+    go true e true true h = (refl, refl, refl, omega (arith, leb-true 30 (scoreOf ls) e, points-run ls))
+    go true e true false h = absurd (omega arith)
+    go true e false pe h = absurd (omega arith)
+    go false e st pe h = absurd (omega arith)
+
+normal-turns : (l : Lot) (ls : List Lot) (st pe : Bool) → readNormal l ls st pe .severity ≡ reduced
+    → Turns normal (l ∷ ls) st pe
+normal-turns l ls st pe h = go (not (accepted l) && leb 2 (notAcceptedIn (take 5 (l ∷ ls)))) h
+  where
+    go : (d : Bool) → cond d (stayOf tightened []) (readSettled (l ∷ ls) st pe) .severity ≡ reduced
+        → Turns normal (l ∷ ls) st pe
+    go true h = absurd (omega arith)
+    go false h = settled-turns (l ∷ ls) st pe h
+
+neither : (d : Bool) (x y : Stay) → (x .severity ≡ reduced → ⊥) → (y .severity ≡ reduced → ⊥)
+    → cond d x y .severity ≡ reduced → ⊥
+neither true x y f g h = f h
+neither false x y f g h = g h
+
+tightened-turns : (l : Lot) (ls : List Lot) → readTightened l ls .severity ≡ reduced → ⊥
+tightened-turns l ls h =
+    neither (accepted l) _ _
+    (neither (leb 5 (runOf (l ∷ ls))) (stayOf normal []) (stayOf tightened (l ∷ ls)) (omega arith) (omega arith))
+    (neither (leb 5 (notAcceptedIn (l ∷ ls))) (stayOf stopped []) (stayOf tightened (l ∷ ls)) (omega arith)
+    (omega arith))
+    h
+
+module _ (st pe : Bool) (ls : List Lot) where
+  lot-turns : (s : ℕ) (l : Lot) → (s ≡ reduced → ⊥) → readLot s l ls st pe .severity ≡ reduced → Turns s (l ∷ ls) st pe
+  unfolding readLot
+  lot-turns zero l n h = normal-turns l ls st pe h
+  lot-turns (suc zero) l n h = absurd (tightened-turns l ls h)
+  lot-turns (suc (suc zero)) l n h = absurd (n refl)
+  lot-turns (suc (suc (suc s))) l n h = absurd (omega arith)
+
+  order-turns : (s : ℕ) (stands : Bool) → (s ≡ reduced → ⊥) → readOrder s stands ls st pe .severity ≡ reduced
+      → Turns s ls st pe
+  unfolding readOrder
+  order-turns zero stands n h = settled-turns ls st pe h
+  order-turns (suc zero) stands n h = absurd (omega arith)
+  order-turns (suc (suc zero)) stands n h = absurd (n refl)
+  order-turns (suc (suc (suc s))) stands n h = absurd (omega arith)
+
+event-turns : (e : Event) (st pe : Bool) (y : Stay) → (y .severity ≡ reduced → ⊥)
+    → readEvent e st pe y .severity ≡ reduced → Turns (y .severity) (lotsWith e (y .lots)) st pe
+unfolding readEvent
+event-turns (lot o l) st pe y n h = lot-turns st pe (y .lots) (y .severity) l n h
+event-turns resubmitted st pe y n h = absurd (n h)
+event-turns (steadyIs b) st pe y n h = order-turns st pe (y .lots) (y .severity) b n h
+event-turns (permissionIs b) st pe y n h = order-turns st pe (y .lots) (y .severity) b n h
+event-turns corrective st pe y n h =
+    absurd (neither (leb stopped (y .severity)) (stayOf tightened []) y (omega arith) n h)
+event-turns unknown st pe y n h = absurd (n h)
+
+turns : (start : Bool) (e : Event) (es : List Event) → (severityRead start es ≡ reduced → ⊥)
+    → severityRead start (e ∷ es) ≡ reduced
+    → Turns (severityRead start es) (lotsWith e (stayAfter start es .lots)) (steadyIn (e ∷ es))
+    (permissionIn start (e ∷ es))
+unfolding stayAfter
+turns start e es n h = event-turns e (steadyIn (e ∷ es)) (permissionIn start (e ∷ es)) (stayAfter start es) n h
+
+-- a stay of another severity starts
+starts-stay : (start : Bool) (e : Event) (es : List Event) (s t : ℕ) (ls : List Lot) (ys : List Stay)
+    → severityRead start (e ∷ es) ≡ s → (s ≡ t → ⊥) → staysIn start es ≡ stayOf t ls ∷ ys
+    → staysIn start (e ∷ es) ≡ stayOf s [] ∷ stayOf t (lotsWith e ls) ∷ ys
+unfolding staysIn
+starts-stay start e es s t ls ys h n q = rw (q, h, ne-eqb s t n)
+
+-- What stands when reduced starts by an event: it was normal, steady and permission stand, and the last ten original
+-- lots of that normal stay, the history's second newest now, were all accepted.
+pub record ReducedStarts (start : Bool) (e : Event) (es : List Event) : Type 0 where
+  pub was-normal : severityRead start es ≡ normal
+  pub steady-stands : steadyIn (e ∷ es) ≡ true
+  pub permission-stands : permissionIn start (e ∷ es) ≡ true
+  pub lots : List Lot
+  pub earlier : List Stay
+  pub that-stay : staysIn start (e ∷ es) ≡ stayOf reduced [] ∷ stayOf normal lots ∷ earlier
+  pub ten-accepted : LastAccepted 10 lots
+
+pub reduced-starts : (start : Bool) (e : Event) (es : List Event) → (severityRead start es ≡ reduced → ⊥)
+    → severityRead start (e ∷ es) ≡ reduced → ReducedStarts start e es
+reduced-starts start e es n h =
+    let t = turns start e es n h in
+    let y : Stay = stayAfter start es in
+    let p = present-stay start es (omega arith) in
+    record {
+      was-normal = t .0;
+      steady-stands = t .1;
+      permission-stands = t .2;
+      lots = lotsWith e (y .lots);
+      earlier = p .0;
+      that-stay =
+          starts-stay start e es reduced normal (y .lots) (p .0) h (omega arith)
+          (p .1 ∙ ap (λ (s : ℕ). stayOf s (y .lots) ∷ p .0) (t .0));
+      ten-accepted = last-accepted 10 (lotsWith e (y .lots)) (t .3);
+    }
