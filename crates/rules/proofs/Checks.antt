@@ -1,13 +1,17 @@
 -- An entry's checks: what they let through and what they refuse does not hang on the answer that stands behind them.
 -- Assumes nothing.
 use Prim.Native.Nat.{ℕ, zero, suc, _≤_, _<_}
-use mathlib.Core.Path.{_≡_, refl}
+use mathlib.Core.Path.{_≡_, refl, ap, sym, _∙_}
 use mathlib.Core.Bool.{Bool, true, false, cond}
 use mathlib.Core.List.{List, [], _∷_}
 use native.Mathlib.Omega.{arith}
-use borrow.Author.Tests.{ltb-false, eqb-false}
-use Rattle.rules.specs.Refusals.{Answer, refused, given, Check, firstOf}
-use Rattle.rules.specs.Entries.{Asked, askedChecks}
+use lib.Dec.{ltb, eqb}
+use borrow.Author.Tests.{ltb-false, eqb-false, le-ltb, eq-eqb, ne-eqb}
+use Rattle.rules.specs.Refusals.{Answer, refused, given, Check, _gives_, firstOf, noSuchColumn, whileStopped}
+use Rattle.rules.specs.Refusals.{noPlan}
+use Rattle.rules.specs.Codes.{reduced, letterChecks, letterOf, tableOneLetter}
+use Rattle.rules.specs.Entries.{Asked, askedChecks, askedLetter, plainPlan}
+use Rattle.rules.specs.Single.{Plan, planAt, landingOf, tablePlan}
 use Rattle.rules.proofs.Bounded.{by-le}
 
 -- the check at a place of the list finds something wrong
@@ -26,7 +30,8 @@ module _ {A : Type 0} (x : Answer A) (a : A) where
   pub right-at : (cs : List Check) → firstOf cs x ≡ given a → (i : ℕ) → wrongAt cs i ≡ false
   unfolding wrongAt
   right-at [] e i = refl
-  right-at (c ∷ cs) e zero = given-past (λ t. t ≡ false) (c .wrong) (c .number) (c .place) (firstOf cs x) a e (λ _. refl)
+  right-at (c ∷ cs) e zero =
+      given-past (λ t. t ≡ false) (c .wrong) (c .number) (c .place) (firstOf cs x) a e (λ _. refl)
   right-at (c ∷ cs) e (suc i) =
       given-past (λ _. wrongAt cs i ≡ false) (c .wrong) (c .number) (c .place) (firstOf cs x) a e
       (λ f. right-at cs f i)
@@ -71,3 +76,71 @@ plannable q x a e =
       level = omega arith;
       column = omega arith;
     }
+
+-- the checks of a lot under a known severity: those of its letter, then the column and stopped
+abbrev pub laterChecks : Asked → List Check
+laterChecks q = (ltb 25 (q .column) gives noSuchColumn) ∷ (eqb (q .severity) 3 gives whileStopped) ∷ []
+
+module _ (q : Asked) (known : q .severity ≤ 3) where
+  asked-known : askedLetter q
+      ≡ firstOf (letterChecks (q .size) (q .level)) (firstOf (laterChecks q) (given (letterOf (q .size) (q .level))))
+  unfolding askedLetter
+  asked-known = rw (le-ltb 3 (q .severity) known)
+
+  -- a lot whose letter is refused is refused by the same number ..
+  pub asked-refused : (n p : ℕ) → tableOneLetter (q .size) (q .level) ≡ refused n p → askedLetter q ≡ refused n p
+  unfolding tableOneLetter
+  asked-refused n p e = asked-known ∙ kept (letterChecks (q .size) (q .level)) (letterOf (q .size) (q .level)) n p _ e
+
+  -- .. and any other by its column, while stopped, or not at all
+  pub asked-later : (l : ℕ) → tableOneLetter (q .size) (q .level) ≡ given l
+      → askedLetter q ≡ firstOf (laterChecks q) (given l)
+  unfolding tableOneLetter
+  asked-later l e =
+      asked-known
+      ∙ passed (given (letterOf (q .size) (q .level))) l (letterChecks (q .size) (q .level)) _ e
+      ∙ ap (firstOf (laterChecks q))
+      (sym (passed (given (letterOf (q .size) (q .level))) l (letterChecks (q .size) (q .level)) _ e) ∙ e)
+
+-- A lot that has its letter passes what every entry checks, and the letter is Table 1's.
+module _ (q : Asked) (l : ℕ) (e : askedLetter q ≡ given l) where
+  pub asked-passed : {A : Type 0} (y : Answer A) → firstOf (askedChecks q) y ≡ y
+  unfolding askedLetter
+  asked-passed y = passed (given (letterOf (q .size) (q .level))) l (askedChecks q) y e
+
+  pub asked-letter : letterOf (q .size) (q .level) ≡ l
+  unfolding askedLetter
+  asked-letter = let g = sym (asked-passed (given (letterOf (q .size) (q .level)))) ∙ e in cc
+
+  pub asked-plannable : Plannable q
+  unfolding askedLetter
+  asked-plannable = plannable q (given (letterOf (q .size) (q .level))) l e
+
+-- A lot that has none is refused alike by each entry.
+pub asked-kept : {A : Type 0} (q : Asked) (n p : ℕ) (y : Answer A) → askedLetter q ≡ refused n p
+    → firstOf (askedChecks q) y ≡ refused n p
+unfolding askedLetter
+asked-kept q n p y e = kept (askedChecks q) (letterOf (q .size) (q .level)) n p y e
+
+-- the plan of a bench without a book
+reducedCheck : Asked → Answer Plan
+reducedCheck q =
+    firstOf ((eqb (q .severity) reduced gives noPlan) ∷ [])
+    (given (tablePlan (q .severity) (q .size) (q .level) (q .column)))
+
+pub plain-refused : (q : Asked) (n p : ℕ) → askedLetter q ≡ refused n p → plainPlan q ≡ refused n p
+unfolding plainPlan reducedCheck
+plain-refused q n p e = asked-kept q n p (reducedCheck q) e
+
+module _ (q : Asked) (l : ℕ) (e : askedLetter q ≡ given l) where
+  pub plain-reduced : q .severity ≡ 2 → plainPlan q ≡ refused 6 0
+  unfolding plainPlan reducedCheck
+  plain-reduced s = asked-passed q l e (reducedCheck q) ∙ rw (eq-eqb (q .severity) 2 s)
+
+  pub plain-given : (q .severity ≡ 2 → ⊥)
+      → plainPlan q ≡ given (planAt (q .size) (landingOf (q .severity) (q .column) l))
+  unfolding plainPlan reducedCheck tablePlan
+  plain-given s =
+      asked-passed q l e (reducedCheck q)
+      ∙ rw (ne-eqb (q .severity) 2 s)
+      (ap (λ (x : ℕ). given (planAt (q .size) (landingOf (q .severity) (q .column) x))) (asked-letter q l e))

@@ -1,0 +1,68 @@
+-- A box as the code reads it: a cell below 254 is a number, 254 an arrow down, 255 an arrow up; and what each makes of
+-- a landing.
+-- Assumes nothing.
+use Prim.Native.Nat.{ℕ, _+_, _-_, _≤_, _<_}
+use mathlib.Core.Path.{_≡_, refl, ap, sym, _∙_}
+use native.Mathlib.Omega.{arith}
+use lib.Dec.{leb, eqb}
+use borrow.Author.Tests.{eq-eqb, ne-eqb}
+use Rattle.rules.specs.Single.{Box, down, up, number, boxAt, Landing, landed, landing, acOf}
+use Rattle.rules.proofs.Bounded.{by-le}
+use Rattle.rules.proofs.Tables.{up-positive}
+use Rattle.rules.proofs.Landing.{landing-number, landing-down, landing-up, landing-last-down, landing-last-up}
+use Rattle.plans.specs.Paper.{boxIn, arrowTo}
+
+pub cell-number : (cell : ℕ) → cell < 254 → boxIn cell ≡ number cell
+cell-number cell h = rw (ne-eqb cell 254 (λ e. omega arith), ne-eqb cell 255 (λ e. omega arith))
+
+cell-down : (cell : ℕ) → cell ≡ 254 → boxIn cell ≡ down
+cell-down cell e = rw (eq-eqb cell 254 e)
+
+cell-up : (cell : ℕ) → 254 < cell → cell < 256 → boxIn cell ≡ up
+cell-up cell h g = rw (ne-eqb cell 254 (λ e. omega arith), eq-eqb cell 255 (omega arith))
+
+-- an arrow has no Ac
+pub cell-arrow : (cell : ℕ) → 254 ≤ cell → cell < 256 → acOf (boxIn cell) ≡ 0
+cell-arrow cell h g =
+    by-le cell 254 (λ p. ap acOf (cell-down cell (omega arith))) (λ p. ap acOf (cell-up cell p g))
+
+-- an arrow goes down, or up, one letter
+arrow-down : (cell letter : ℕ) → cell ≡ 254 → arrowTo cell letter ≡ letter + 1
+arrow-down cell letter e = rw (eq-eqb cell 254 e)
+
+arrow-up : (cell letter : ℕ) → (cell ≡ 254 → ⊥) → arrowTo cell letter ≡ letter - 1
+arrow-up cell letter n = rw (ne-eqb cell 254 n)
+
+pub arrow-near : (cell letter : ℕ) → 254 ≤ cell → arrowTo cell letter ≤ letter + 1
+arrow-near cell letter h =
+    by-le cell 254 (λ p. omega (arith, arrow-down cell letter (omega arith)))
+    (λ p. omega (arith, arrow-up cell letter (λ q. omega arith)))
+
+module _ (severity column letter cell : ℕ) (e : boxIn cell ≡ boxAt severity column letter) where
+  pub lands : (left : ℕ) → cell < 254 → landed letter cell ≡ landing left severity column letter
+  lands left h = sym (landing-number severity column letter left cell (sym e ∙ cell-number cell h))
+
+  module _ (h : 254 ≤ cell) (g : cell < 256) where
+    at-down : cell ≤ 254 → boxAt severity column letter ≡ down
+    at-down p = sym e ∙ cell-down cell (omega arith)
+
+    at-up : 254 < cell → boxAt severity column letter ≡ up
+    at-up p = sym e ∙ cell-up cell p g
+
+    -- an arrow up has a letter to go to
+    pub goes-up : severity < 2 → column < 26 → (cell ≡ 254 → ⊥) → 1 ≤ letter
+    goes-up v c n =
+        by-le cell 254 (λ p. absurd (n (omega arith))) (λ p. up-positive severity column letter v c (at-up p))
+
+    pub goes : (left : ℕ) → 0 < left
+        → landing (left - 1) severity column (arrowTo cell letter) ≡ landing left severity column letter
+    goes left l =
+        by-le cell 254
+        (λ p. rw (arrow-down cell letter (omega arith)) (sym (landing-down severity column letter left l (at-down p))))
+        (λ p. rw (arrow-up cell letter (λ q. omega arith)) (sym (landing-up severity column letter left l (at-up p))))
+
+    pub goes-last : landed (arrowTo cell letter) 0 ≡ landing 0 severity column letter
+    goes-last =
+        by-le cell 254
+        (λ p. rw (arrow-down cell letter (omega arith)) (sym (landing-last-down severity column letter (at-down p))))
+        (λ p. rw (arrow-up cell letter (λ q. omega arith)) (sym (landing-last-up severity column letter (at-up p))))

@@ -1,0 +1,4 @@
+pub mod Arrows
+pub mod Letters
+pub mod Master
+pub mod One

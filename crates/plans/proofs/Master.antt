@@ -1,0 +1,160 @@
+-- The code's rows are those of the master table, each proved once for both severities by one computed test; then the
+-- box that a row gives at a letter.
+-- Assumes nothing.
+use Prim.Native.Nat.{ℕ, zero, suc, _+_, _-_, _≤_, _<_}
+use mathlib.Core.Path.{_≡_, refl, ap, sym, _∙_}
+use mathlib.Core.Bool.{Bool, true, false, cond, _&&_, and-false}
+use mathlib.Core.List.{List, [], _∷_}
+use native.Mathlib.Omega.{arith}
+use lib.Dec.{T, leb, leb→le, eqb, eqb→eq}
+use borrow.Author.Tests.{le-leb, lt-leb}
+use lib.ListN.{length, getD, List·getD-eq-default}
+use Rattle.rules.specs.Single as paper
+use Rattle.rules.specs.Single.{Box, down, up, number, rowAt, boxAt, masterTable}
+use Rattle.rules.proofs.Bounded.{both-left, both-right, all, all-at, all-at₂}
+use Rattle.plans.specs.declared.Row.{Row}
+use Rattle.plans.specs.Paper.{boxIn, rowPaper}
+
+abbrev pub row : ℕ → ℕ → ℕ → ℕ → Row
+row first last there elsewhere = record { 0 = first; 1 = last; 2 = there; 3 = elsewhere }
+
+-- the code's rows, of s from 14 to 26
+abbrev pub master : List (List Row)
+master =
+    (row 0 0 0 0
+    ∷ row 0 0 254 255
+    ∷ row 15 15 255 254
+    ∷ row 0 0 1 1
+    ∷ row 0 0 2 2
+    ∷ row 0 0 3 3
+    ∷ row 0 0 5 5
+    ∷ row 0 0 7 7
+    ∷ row 0 0 10 10
+    ∷ row 0 0 14 14
+    ∷ row 0 0 21 21
+    ∷ row 0 4 30 255
+    ∷ row 0 4 44 255 ∷ [])
+    ∷ (row 0 0 254 254
+    ∷ row 0 0 0 0
+    ∷ row 0 0 254 255
+    ∷ row 0 0 254 254
+    ∷ row 0 0 1 1
+    ∷ row 0 0 2 2
+    ∷ row 0 0 3 3
+    ∷ row 0 0 5 5
+    ∷ row 0 0 8 8
+    ∷ row 0 0 12 12
+    ∷ row 0 0 18 18
+    ∷ row 0 4 27 255
+    ∷ row 0 4 41 255 ∷ [])
+    ∷ []
+
+sameBox : Box → Box → Bool
+sameBox down down = true
+sameBox down up = false
+sameBox down (number b) = false
+sameBox up down = false
+sameBox up up = true
+sameBox up (number b) = false
+sameBox (number a) down = false
+sameBox (number a) up = false
+sameBox (number a) (number b) = eqb a b
+
+same-box : (a b : Box) → T (sameBox a b) → a ≡ b
+unfolding sameBox
+same-box down down t = refl
+same-box down up t = absurd t
+same-box down (number b) t = absurd t
+same-box up down t = absurd t
+same-box up up t = refl
+same-box up (number b) t = absurd t
+same-box (number a) down t = absurd t
+same-box (number a) up t = absurd t
+same-box (number a) (number b) t = ap number (eqb→eq a b t)
+
+sameRow : paper.Row → paper.Row → Bool
+sameRow a b =
+    (eqb (a .first) (b .first) && eqb (a .last) (b .last))
+    && (sameBox (a .there) (b .there) && sameBox (a .elsewhere) (b .elsewhere))
+
+rowOf : ℕ → ℕ → Box → Box → paper.Row
+rowOf f l t e = record { first = f; last = l; there = t; elsewhere = e }
+
+row-of : {f g l m : ℕ} {t u e o : Box} → f ≡ g → l ≡ m → t ≡ u → e ≡ o → rowOf f l t e ≡ rowOf g m u o
+row-of p q r s = cc
+
+same-row : (a b : paper.Row) → T (sameRow a b) → a ≡ b
+unfolding sameRow rowOf
+same-row a b t =
+    let numbers = eqb (a .first) (b .first) && eqb (a .last) (b .last) in
+    let boxes = sameBox (a .there) (b .there) && sameBox (a .elsewhere) (b .elsewhere) in
+    let p = both-left numbers boxes t in
+    let q = both-right numbers boxes t in
+    row-of
+    (eqb→eq _ _ (both-left (eqb (a .first) (b .first)) (eqb (a .last) (b .last)) p))
+    (eqb→eq _ _ (both-right (eqb (a .first) (b .first)) (eqb (a .last) (b .last)) p))
+    (same-box _ _ (both-left (sameBox (a .there) (b .there)) (sameBox (a .elsewhere) (b .elsewhere)) q))
+    (same-box _ _ (both-right (sameBox (a .there) (b .there)) (sameBox (a .elsewhere) (b .elsewhere)) q))
+
+module _ (rows : List Row) (none : Row) where
+  held : ℕ → ℕ → Bool
+  held severity place = sameRow (rowPaper (getD (getD master severity rows) place none)) (rowAt severity (place + 14))
+
+  held-all : T (all 2 (λ severity. all 13 (held severity)))
+  unfolding held sameRow sameBox
+  held-all = tt
+
+  pub row-held : (severity place : ℕ) → severity < 2 → place < 13
+      → rowPaper (getD (getD master severity rows) place none) ≡ rowAt severity (place + 14)
+  unfolding held
+  row-held severity place v p = same-row _ _ (all-at₂ 2 13 held held-all severity place v p)
+
+-- "under 14" and "under 15": down; the code's rows hold the tightened 14
+downThere : ℕ → ℕ → Bool
+downThere severity s = sameRow (rowAt severity s) (paper.all down)
+
+down-there : T (all 2 (λ severity. all 14 (downThere severity)))
+unfolding downThere sameRow sameBox
+down-there = tt
+
+listed : ℕ → Bool
+listed severity = leb (length (getD masterTable severity [])) 27
+
+listed-all : T (all 2 listed)
+unfolding listed
+listed-all = tt
+
+either : (t : Bool) (b : Box) → b ≡ cond t b b
+either true b = refl
+either false b = refl
+
+module _ (severity column letter : ℕ) (v : severity < 2) where
+  pub box-under : letter + column < 14 → down ≡ boxAt severity column letter
+  unfolding boxAt downThere
+  box-under h =
+      let e : rowAt severity (letter + column) ≡ paper.all down =
+      same-row _ _ (all-at₂ 2 14 downThere down-there severity (letter + column) v h) in
+      rw e (either (leb 0 letter && leb letter 0) down)
+
+  pub box-over : 26 < letter + column → up ≡ boxAt severity column letter
+  unfolding boxAt listed
+  box-over h =
+      let l : length (getD masterTable severity []) ≤ letter + column =
+      omega (arith, leb→le (length (getD masterTable severity [])) 27 (all-at 2 listed listed-all severity v)) in
+      let e : rowAt severity (letter + column) ≡ paper.all up =
+      List·getD-eq-default (getD masterTable severity []) (paper.all up) l in
+      rw e (either (leb 0 letter && leb letter 0) up)
+
+  module _ (first last there elsewhere : ℕ)
+      (e : rowPaper (row first last there elsewhere) ≡ rowAt severity (letter + column)) where
+    pub box-before : letter < first → boxIn elsewhere ≡ boxAt severity column letter
+    unfolding boxAt
+    box-before h = rw (← e, lt-leb first letter h)
+
+    pub box-after : last < letter → boxIn elsewhere ≡ boxAt severity column letter
+    unfolding boxAt
+    box-after h = rw (← e, lt-leb letter last h, and-false)
+
+    pub box-there : first ≤ letter → letter ≤ last → boxIn there ≡ boxAt severity column letter
+    unfolding boxAt
+    box-there h g = rw (← e, le-leb first letter h, le-leb letter last g)

@@ -1,0 +1,72 @@
+-- `plans::row_of` meets its contract: the loop's invariant is that the row is the first of those left. Assumes nothing.
+use Prim.Native.Nat.{ℕ, suc, _+_, _-_, _≤_}
+use mathlib.Core.Path.{_≡_, refl, sym, _∙_}
+use native.Mathlib.Numerals.{add-one}
+use native.Mathlib.Omega.{arith}
+use lib.ListN.{drop, length, getD}
+use lib.Seq.{drop-cons}
+use borrow.Author.Tests.{le-leb, lt-leb}
+use Rattle.rules.specs.Codes.{rowOf, rowFrom, upTo}
+use Rattle.plans.proofs.row_of.Statement.{statement}
+use Rattle.plans.proofs.row_of.Tie as tie
+
+abbrev Inv-loop : tie.InvT-loop
+Inv-loop size i₀ i = (i ≤ 14) × (rowOf size ≡ rowFrom i (drop i upTo) size)
+
+abbrev μ-loop : tie.MeasureT-loop
+μ-loop size i₀ i = 14 - i
+
+loop-holds : tie.Need-loop-holds Inv-loop μ-loop
+unfolding rowOf
+loop-holds c = (omega arith, refl)
+
+mul-if1 : tie.Need-mul-if1 Inv-loop μ-loop
+mul-if1 c = omega arith
+
+array-read-if1 : tie.Need-array-read-if1 Inv-loop μ-loop
+array-read-if1 c = omega arith
+
+returns : tie.Need-returns Inv-loop μ-loop
+unfolding rowFrom
+returns c =
+    let i = c .before .before .loop .i in
+    let size = c .before .before .before .args .size in
+    let h : suc i ≤ length upTo = omega arith in
+    let inv = c .before .before .loop .inv .1 in
+    (sym (inv ∙ rw (drop-cons upTo i 0, le-leb size (getD upTo i 0) (c .if1 .taken))), omega arith)
+
+add-i : tie.Need-add-i Inv-loop μ-loop
+add-i c = omega arith
+
+loop-less : tie.Need-loop-less Inv-loop μ-loop
+loop-less c = omega arith
+
+loop-again : tie.Need-loop-again Inv-loop μ-loop
+unfolding rowFrom
+loop-again c =
+    let i = c .before .before .loop .i in
+    let size = c .before .before .before .args .size in
+    let h : suc i ≤ length upTo = omega arith in
+    let inv = c .before .before .loop .inv .1 in
+    (omega arith, inv ∙ rw (drop-cons upTo i 0, lt-leb size (getD upTo i 0) (c .if1 .left), add-one))
+
+returns-2 : tie.Need-returns-2 Inv-loop μ-loop
+unfolding rowFrom
+returns-2 c =
+    let e : c .before .loop .i ≡ 14 = omega arith in
+    (e ∙ sym (c .before .loop .inv .1 ∙ rw e), omega arith)
+
+pub row-of-spec : {M : Type 1} → statement M
+row-of-spec =
+    tie.close
+    (tie.spec
+    Inv-loop
+    μ-loop
+    loop-holds
+    mul-if1
+    array-read-if1
+    returns
+    add-i
+    loop-less
+    loop-again
+    returns-2)

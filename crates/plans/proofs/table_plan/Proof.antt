@@ -1,0 +1,69 @@
+-- `plans::table_plan` meets its contract: a lot that cannot be planned is refused as its letter is, 6 under reduced,
+-- and
+-- any other takes the tables' plan.
+-- Assumes nothing.
+use mathlib.Core.Path.{_≡_, ap, sym, _∙_}
+use borrow.Author.Needs.{needs}
+use borrow.Author.Tests.{eq-eqb, ne-eqb}
+use native.Mathlib.Omega.{arith}
+use Rattle.rules.specs.Refusals.{given}
+use Rattle.rules.specs.Entries.{Asked, askedLetter, plainPlan}
+use Rattle.rules.proofs.Checks.{asked-plannable, asked-letter, plain-refused, plain-reduced, plain-given}
+use Rattle.rules.proofs.Tables.{letter-within}
+use Rattle.plans.specs.Paper.{asked, letterPaper}
+use Rattle.plans.proofs.table_plan.Statement.{statement}
+use Rattle.plans.proofs.table_plan.Tie as tie
+
+asked-letter-requires : tie.Need-asked-letter-requires
+asked-letter-requires c κs = search needs
+
+enum-known-number : tie.Need-enum-known-number
+enum-known-number c = search needs
+
+enum-known-first : tie.Need-enum-known-first
+enum-known-first c = search needs
+
+abbrev lot : tie.After-first → Asked
+lot c =
+    let a = c .before .before .before .args in
+    asked (a .severity) (a .size) (a .level) (a .column)
+
+-- the letter that the lot has
+has : (c : tie.After-first) → askedLetter (lot c) ≡ given (c .first .given .0 .0)
+has c = sym (c .before .before .asked-letter .ensures) ∙ ap letterPaper (c .first .given .1)
+
+returns : tie.Need-returns
+returns c =
+    let at = c .before .before in
+    sym (plain-reduced (lot at) _ (has at) (c .if1 .taken))
+
+plan-from-requires : tie.Need-plan-from-requires
+plan-from-requires c κs =
+    let at = c .before .before in
+    let p = asked-plannable (lot at) _ (has at) in
+    let l = asked-letter (lot at) _ (has at) in
+    let w = letter-within (lot at .size) (lot at .level) in
+    (omega arith, p .column, omega arith)
+
+returns-2 : tie.Need-returns-2
+returns-2 c =
+    let a = c .before .before .before .before .args in
+    sym (plain-refused (asked (a .severity) (a .size) (a .level) (a .column)) _ _
+    (sym (c .before .before .before .asked-letter .ensures) ∙ ap letterPaper (c .before .number .given .1)))
+
+returns-3 : tie.Need-returns-3
+returns-3 c =
+    let at = c .before .before .before in
+    ap given (c .plan-from .ensures) ∙ sym (plain-given (lot at) _ (has at) (c .before .if1 .left))
+
+pub table-plan-spec : {M : Type 1} → statement M
+table-plan-spec =
+    tie.close
+    (tie.spec
+    asked-letter-requires
+    enum-known-number
+    enum-known-first
+    returns
+    plan-from-requires
+    returns-2
+    returns-3)

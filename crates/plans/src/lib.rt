@@ -1,0 +1,303 @@
+// Single plans of document 01: the letter of Table 1, the boxes of the master tables, the arrows, the cut to the lot.
+ghost use mathlib.Core.Path.{_≡_};
+ghost use Prim.Native.Nat.{_+_, _-_, _≤_, _<_};
+ghost use Rattle.rules.specs.Codes.{rowOf, tableOneLetter};
+ghost use Rattle.rules.specs.Single.{rowAt, boxAt, landing, landingOf, cutTo, planAt, tighterAc};
+ghost use Rattle.rules.specs.Entries.{askedLetter, plainPlan};
+ghost use Rattle.plans.specs.Paper.{asked, boxIn, rowPaper, arrowTo};
+ghost use Rattle.plans.specs.Paper.{landingPaper, planPaper, letterPaper, paperOf};
+
+// Table 1: the last size of each row but the last ..
+const UP_TO: [u32; 14] = [
+    8,
+    15,
+    25,
+    50,
+    90,
+    150,
+    280,
+    500,
+    1200,
+    3200,
+    10000,
+    35000,
+    150000,
+    500000,
+];
+
+// .. and each row's letters in level order.
+const LETTERS: [[u8; 7]; 15] = [
+    [0, 0, 0, 0, 0, 0, 1],
+    [0, 0, 0, 0, 0, 1, 2],
+    [0, 0, 1, 1, 1, 2, 3],
+    [0, 1, 1, 2, 2, 3, 4],
+    [1, 1, 2, 2, 2, 4, 5],
+    [1, 1, 2, 3, 3, 5, 6],
+    [1, 2, 3, 4, 4, 6, 7],
+    [1, 2, 3, 4, 5, 7, 8],
+    [2, 2, 4, 5, 6, 8, 9],
+    [2, 3, 4, 6, 7, 9, 10],
+    [2, 3, 5, 6, 8, 10, 11],
+    [2, 3, 5, 7, 9, 11, 12],
+    [3, 4, 6, 8, 10, 12, 13],
+    [3, 4, 6, 8, 11, 13, 14],
+    [3, 4, 7, 9, 12, 14, 15],
+];
+
+const SIZES: [u16; 17] = [
+    2,
+    3,
+    5,
+    8,
+    13,
+    20,
+    32,
+    50,
+    80,
+    125,
+    200,
+    315,
+    500,
+    800,
+    1250,
+    2000,
+    3150,
+];
+
+// A box in a row is its Ac, or an arrow.
+const DOWN: u8 = 254;
+
+const UP: u8 = 255;
+
+// A row of a master table: the box that stands third is that of the letters from the first number to the second, the
+// fourth that of all other letters.
+struct Row(u8, u8, u8, u8);
+
+// The rows of s from 14 to 26, normal and tightened.
+const MASTER: [[Row; 13]; 2] = [
+    [
+        Row(0, 0, 0, 0),
+        Row(0, 0, DOWN, UP),
+        Row(15, 15, UP, DOWN),
+        Row(0, 0, 1, 1),
+        Row(0, 0, 2, 2),
+        Row(0, 0, 3, 3),
+        Row(0, 0, 5, 5),
+        Row(0, 0, 7, 7),
+        Row(0, 0, 10, 10),
+        Row(0, 0, 14, 14),
+        Row(0, 0, 21, 21),
+        Row(0, 4, 30, UP),
+        Row(0, 4, 44, UP),
+    ],
+    [
+        Row(0, 0, DOWN, DOWN),
+        Row(0, 0, 0, 0),
+        Row(0, 0, DOWN, UP),
+        Row(0, 0, DOWN, DOWN),
+        Row(0, 0, 1, 1),
+        Row(0, 0, 2, 2),
+        Row(0, 0, 3, 3),
+        Row(0, 0, 5, 5),
+        Row(0, 0, 8, 8),
+        Row(0, 0, 12, 12),
+        Row(0, 0, 18, 18),
+        Row(0, 4, 27, UP),
+        Row(0, 4, 41, UP),
+    ],
+];
+
+// Where the arrows end.
+struct Landing {
+    letter: u8,
+    ac: u16,
+}
+
+pub struct SinglePlan {
+    pub letter: u8,
+    pub n: u16,
+    pub ac: u16,
+}
+
+pub enum LetterAnswer {
+    Refused(u8, usize),
+    Given(u8),
+}
+
+pub enum PlanAnswer {
+    Refused(u8, usize),
+    Given(SinglePlan),
+}
+
+fn row_of(size: u32) -> usize
+    ensures { λ r. ⌜ (r ≡ rowOf size) × (r < 15) ⌝ }
+{
+    let mut i: usize = 0;
+    while i < 14 {
+        if size <= UP_TO[i] {
+            return i;
+        }
+        i += 1;
+    }
+    i
+}
+
+// The letter of Table 1.
+pub fn letter(size: u32, level: u32) -> LetterAnswer
+    ensures { λ r. ⌜ letterPaper r ≡ tableOneLetter size level ⌝ }
+{
+    if size < 2 {
+        return LetterAnswer::Refused(2, 0);
+    }
+    if 6 < level {
+        return LetterAnswer::Refused(3, 0);
+    }
+    let row = row_of(size);
+    let place = level as usize;
+    LetterAnswer::Given(LETTERS[row][place])
+}
+
+// The letter of a lot that can be planned at a severity: what every look-up in a book starts from.
+pub fn asked_letter(severity: u32, size: u32, level: u32, column: u32) -> LetterAnswer
+    ensures { λ r. ⌜ letterPaper r ≡ askedLetter (asked severity size level column) ⌝ }
+{
+    if 3 < severity {
+        return LetterAnswer::Refused(1, 0);
+    }
+    match letter(size, level) {
+        LetterAnswer::Refused(number, place) => LetterAnswer::Refused(number, place),
+        LetterAnswer::Given(found) => {
+            if 25 < column {
+                return LetterAnswer::Refused(4, 0);
+            }
+            if severity == 3 {
+                return LetterAnswer::Refused(5, 0);
+            }
+            LetterAnswer::Given(found)
+        }
+    }
+}
+
+fn row_at(severity: u32, s: u64) -> Row
+    requires { ⌜ (severity < 2) × (14 ≤ s) × (s < 27) ⌝ }
+    ensures { λ r. ⌜ rowPaper r ≡ rowAt severity s ⌝ }
+{
+    let table = severity as usize;
+    let place = (s - 14) as usize;
+    MASTER[table][place]
+}
+
+// The box of a master table, at any letter and column.
+fn box_at(severity: u32, column: u32, letter: u8) -> u8
+    requires { ⌜ severity < 2 ⌝ }
+    ensures { λ r. ⌜ boxIn r ≡ boxAt severity column letter ⌝ }
+{
+    let s = letter as u64 + column as u64;
+    if s < 14 {
+        return DOWN;
+    }
+    if 26 < s {
+        return UP;
+    }
+    let row = row_at(severity, s);
+    if letter < row.0 {
+        return row.3;
+    }
+    if row.1 < letter {
+        return row.3;
+    }
+    row.2
+}
+
+// The letter that an arrow goes to.
+fn arrow_to(arrow: u8, letter: u8) -> u8
+    requires { ⌜ ((arrow ≡ 254 → ⊥) → 1 ≤ letter) × (letter < 255) ⌝ }
+    ensures { λ r. ⌜ r ≡ arrowTo arrow letter ⌝ }
+{
+    if arrow == DOWN {
+        return letter + 1;
+    }
+    letter - 1
+}
+
+// Follows the arrows from a letter, with so many arrows left after the first.
+fn land(severity: u32, column: u32, letter: u8, left: u8) -> Landing
+    requires { ⌜ (severity < 2) × (column < 26) × (letter + left < 200) ⌝ }
+    ensures { λ r. ⌜ landingPaper r ≡ landing left severity column letter ⌝ }
+{
+    let cell = box_at(severity, column, letter);
+    if cell < DOWN {
+        return Landing {
+            letter,
+            ac: cell as u16,
+        };
+    }
+    let next = arrow_to(cell, letter);
+    if left == 0 {
+        return Landing {
+            letter: next,
+            ac: 0,
+        };
+    }
+    land(severity, column, next, left - 1)
+}
+
+// The size of a sample from a lot: a size at or above the lot is cut to it.
+pub fn cut(lot: u32, n: u16) -> u16
+    ensures { λ r. ⌜ r ≡ cutTo lot n ⌝ }
+{
+    let size = n as u32;
+    if lot <= size {
+        return lot as u16;
+    }
+    n
+}
+
+fn plan_from(severity: u32, size: u32, column: u32, letter: u8) -> SinglePlan
+    requires { ⌜ (severity < 2) × (column < 26) × (letter < 16) ⌝ }
+    ensures { λ r. ⌜ planPaper r ≡ planAt size (landingOf severity column letter) ⌝ }
+{
+    let at = land(severity, column, letter, 15);
+    let row = at.letter as usize;
+    let n = cut(size, SIZES[row]);
+    SinglePlan {
+        letter: at.letter,
+        n,
+        ac: at.ac,
+    }
+}
+
+// The single plan of a bench without a book.
+pub fn table_plan(severity: u32, size: u32, level: u32, column: u32) -> PlanAnswer
+    ensures { λ r. ⌜ paperOf r ≡ plainPlan (asked severity size level column) ⌝ }
+{
+    match asked_letter(severity, size, level, column) {
+        LetterAnswer::Refused(number, place) => PlanAnswer::Refused(number, place),
+        LetterAnswer::Given(first) => {
+            if severity == 2 {
+                return PlanAnswer::Refused(6, 0);
+            }
+            PlanAnswer::Given(plan_from(severity, size, column, first))
+        }
+    }
+}
+
+fn tighter_column(column: u32) -> u32
+    ensures { λ r. ⌜ r ≡ column - 1 ⌝ }
+{
+    if column == 0 {
+        return 0;
+    }
+    column - 1
+}
+
+// The normal Ac one column tighter at a letter; an arrow has none.
+pub fn tighter_ac(letter: u8, column: u32) -> u16
+    ensures { λ r. ⌜ r ≡ tighterAc letter column ⌝ }
+{
+    let cell = box_at(0, tighter_column(column), letter);
+    if cell < DOWN {
+        return cell as u16;
+    }
+    0
+}
