@@ -8,6 +8,8 @@ pub mod Deciding
 pub mod Demands
 pub mod Diff
 pub mod Faults
+pub mod HeldPlans
+pub mod HeldStaged
 pub mod Histories
 pub mod Items
 pub mod Landing

@@ -1,0 +1,184 @@
+-- Plans that a sound book could hold: what the rules of their section give, and that a plan taken from an entry of a
+-- sound book passes the test of plans that are handed over.
+-- Assumes nothing.
+use Prim.Native.Nat.{ℕ, _+_, _*_, _-_, _/_, _≤_, _<_}
+use mathlib.Core.Path.{_≡_, refl, sym, _∙_}
+use mathlib.Core.Bool.{Bool, true, false, cond, _&&_, true≢false}
+use mathlib.Core.List.{List}
+use native.Mathlib.Omega.{arith}
+use borrow.Author.Tests.{ltb-true, leb-true, le-leb}
+use lib.ListN.{getD, take}
+use lib.Dec.{ltb, leb}
+use Rattle.rules.specs.Book.{Kind, Range, within, anything, right, numbersFrom, sizeOf, couldHold}
+use Rattle.rules.specs.Book.{reducedSingles, sequential, variables, sequentialRule, atFits}
+use Rattle.rules.specs.Book.{sequentialOf, variablesOf}
+use Rattle.rules.specs.Codes.{letterOf}
+use Rattle.rules.specs.Single.{Plan}
+use Rattle.rules.specs.Sequential.{SequentialPlan, onAcceptLine, onRejectLine}
+use Rattle.rules.specs.Variables.{VariablesPlan}
+use Rattle.rules.specs.Entries.{Asked, singleEntry, sequentialEntry, variablesEntry, reducedPlan}
+use Rattle.rules.proofs.Steps.{sequential-at}
+use Rattle.rules.proofs.LookUp.{Held, held}
+
+pub and-left : (a b : Bool) → a && b ≡ true → a ≡ true
+and-left true b h = refl
+and-left false b h = h
+
+pub and-right : (a b : Bool) → a && b ≡ true → b ≡ true
+and-right true b h = h
+and-right false b h = absurd (true≢false (sym h))
+
+-- a number that is right is in its range, and keeps its rules
+module _ (k : Kind) (e : List ℕ) (h : Held k e) (p : ℕ) (l : p < sizeOf k e) where
+  pub in-range : (getD (k .ranges) p anything .low ≤ getD e p 0) × (getD e p 0 ≤ getD (k .ranges) p anything .high)
+  unfolding right
+  in-range =
+      let r : Range = getD (k .ranges) p anything in
+      let w = and-left (within r (getD e p 0)) (k .rule (take p e) (getD e p 0)) (h .each p l) in (
+        leb-true (r .low) (getD e p 0) (and-left (leb (r .low) (getD e p 0)) (leb (getD e p 0) (r .high)) w),
+        leb-true (getD e p 0) (r .high) (and-right (leb (r .low) (getD e p 0)) (leb (getD e p 0) (r .high)) w),
+      )
+
+  pub keeps-rule : k .rule (take p e) (getD e p 0) ≡ true
+  unfolding right
+  keeps-rule =
+      and-right (within (getD (k .ranges) p anything) (getD e p 0)) (k .rule (take p e) (getD e p 0)) (h .each p l)
+
+-- "letter 0 to 15, column, n 1 to 3,150, Ac up to 65,534"
+pub record SingleRight (p : Plan) : Type 0 where
+  pub some : 1 ≤ p .n
+  pub few : p .n ≤ 3150
+  pub ac : p .ac ≤ 65534
+
+-- "n is 2 to 50, K .. is 1 to 4,000"
+pub record VariablesRight (p : VariablesPlan) : Type 0 where
+  pub two : 2 ≤ p .n
+  pub fifty : p .n ≤ 50
+  pub some : 1 ≤ p .k
+  pub high : p .k ≤ 4000
+
+pub variables-held : (e : List ℕ) → Held variables e → VariablesRight (variablesOf e)
+variables-held e h =
+    let a = in-range variables e h 3 (omega arith) in
+    let b = in-range variables e h 4 (omega arith) in
+    record { two = a .0; fifty = a .1; some = b .0; high = b .1 }
+
+pub variables-right : (p : VariablesPlan) → couldHold variables (variablesEntry p) ≡ true → VariablesRight p
+variables-right p h = variables-held (variablesEntry p) (held variables (variablesEntry p) h)
+
+pub variables-could : (p : VariablesPlan) → VariablesRight p → couldHold variables (variablesEntry p) ≡ true
+unfolding couldHold numbersFrom right
+variables-could p r =
+    rw (
+      le-leb 2 (p .n) (r .two),
+      le-leb (p .n) 50 (r .fifty),
+      le-leb 1 (p .k) (r .some),
+      le-leb (p .k) 4000 (r .high),
+    )
+
+single-held : (e : List ℕ) → Held reducedSingles e → (letter : ℕ)
+    → SingleRight (record { letter = letter; n = getD e 2 0; ac = getD e 3 0 })
+single-held e h letter =
+    let a = in-range reducedSingles e h 2 (omega arith) in
+    let b = in-range reducedSingles e h 3 (omega arith) in
+    record { some = a .0; few = a .1; ac = b .1 }
+
+-- a cut keeps the plan right
+pub reduced-held : (q : Asked) → 1 ≤ q .size → (e : List ℕ) → Held reducedSingles e → SingleRight (reducedPlan q e)
+reduced-held q s e h = go (leb (q .size) (getD e 2 0)) refl
+  where
+    r : SingleRight (record { letter = letterOf (q .size) (q .level); n = getD e 2 0; ac = getD e 3 0 })
+    r = single-held e h (letterOf (q .size) (q .level))
+
+    go : (t : Bool) → leb (q .size) (getD e 2 0) ≡ t → SingleRight (record {
+      letter = letterOf (q .size) (q .level);
+      n = cond t (q .size) (getD e 2 0);
+      ac = getD e 3 0;
+    })
+    go true t =
+        let l : q .size ≤ getD e 2 0 = leb-true (q .size) (getD e 2 0) t in
+        record { some = s; few = omega (arith, r .few); ac = r .ac }
+    go false t = r
+
+pub single-right : (p : Plan) → couldHold reducedSingles (singleEntry p) ≡ true → SingleRight p
+single-right p h = single-held (singleEntry p) (held reducedSingles (singleEntry p) h) (p .letter)
+
+pub single-could : (p : Plan) → SingleRight p → couldHold reducedSingles (singleEntry p) ≡ true
+unfolding couldHold numbersFrom right
+single-could p r =
+    rw (
+      le-leb 1 (p .n) (r .some),
+      le-leb (p .n) 3150 (r .few),
+      le-leb 0 (p .ac) (omega arith),
+      le-leb (p .ac) 65534 (r .ac),
+    )
+
+-- "hA, hR (both 1 or more), g 1 to 60,000, nt 1 to 3,150, At with floor(g·nt − hA) ≤ At < ceiling(g·nt + hR)": at the
+-- last
+-- item At agrees with the two lines.
+pub record SequentialRight (p : SequentialPlan) : Type 0 where
+  pub hA : (1 ≤ p .hA) × (p .hA ≤ 65535)
+  pub hR : (1 ≤ p .hR) × (p .hR ≤ 65535)
+  pub g : (1 ≤ p .g) × (p .g ≤ 60000)
+  pub nt : (1 ≤ p .nt) × (p .nt ≤ 3150)
+  pub atNt : p .atNt ≤ 65535
+  pub accepts : (d : ℕ) → onAcceptLine p (p .nt) d ≡ true → d ≤ p .atNt
+  pub rejects : (d : ℕ) → onRejectLine p (p .nt) d ≡ true → p .atNt < d
+
+fits-accepts : (hA hR g nt x d : ℕ) → atFits hA hR g nt x ≡ true → leb (100000 * d + 100 * hA) (g * nt) ≡ true → d ≤ x
+unfolding atFits
+fits-accepts hA hR g nt x d f h =
+    let a : (g * nt - 100 * hA) / 100000 ≤ x =
+    leb-true ((g * nt - 100 * hA) / 100000) x
+    (and-left (leb ((g * nt - 100 * hA) / 100000) x) (ltb x ((g * nt + 100 * hR + 99999) / 100000)) f) in
+    let b : 100000 * d + 100 * hA ≤ g * nt = leb-true (100000 * d + 100 * hA) (g * nt) h in
+    omega arith
+
+fits-rejects : (hA hR g nt x d : ℕ) → atFits hA hR g nt x ≡ true → leb (g * nt + 100 * hR) (100000 * d) ≡ true → x < d
+unfolding atFits
+fits-rejects hA hR g nt x d f h =
+    let a : x < (g * nt + 100 * hR + 99999) / 100000 =
+    ltb-true x ((g * nt + 100 * hR + 99999) / 100000)
+    (and-right (leb ((g * nt - 100 * hA) / 100000) x) (ltb x ((g * nt + 100 * hR + 99999) / 100000)) f) in
+    let b : g * nt + 100 * hR ≤ 100000 * d = leb-true (g * nt + 100 * hR) (100000 * d) h in
+    omega arith
+
+sequential-fits : (e : List ℕ) → Held sequential e
+    → atFits (getD e 3 0) (getD e 4 0) (getD e 5 0) (getD e 6 0) (getD e 7 0) ≡ true
+sequential-fits e h =
+    sym (sequential-at e 7 (getD e 7 0) (omega (arith, h .whole)) refl) ∙ keeps-rule sequential e h 7 (omega arith)
+
+pub sequential-held : (e : List ℕ) → Held sequential e → SequentialRight (sequentialOf e)
+sequential-held e h =
+    record {
+      hA = in-range sequential e h 3 (omega arith);
+      hR = in-range sequential e h 4 (omega arith);
+      g = in-range sequential e h 5 (omega arith);
+      nt = in-range sequential e h 6 (omega arith);
+      atNt = in-range sequential e h 7 (omega arith) .1;
+      accepts =
+          λ d. fits-accepts (getD e 3 0) (getD e 4 0) (getD e 5 0) (getD e 6 0) (getD e 7 0) d (sequential-fits e h);
+      rejects =
+          λ d. fits-rejects (getD e 3 0) (getD e 4 0) (getD e 5 0) (getD e 6 0) (getD e 7 0) d (sequential-fits e h);
+    }
+
+pub sequential-right : (p : SequentialPlan) → couldHold sequential (sequentialEntry p) ≡ true → SequentialRight p
+sequential-right p h = sequential-held (sequentialEntry p) (held sequential (sequentialEntry p) h)
+
+pub sequential-could : (e : List ℕ) → Held sequential e → couldHold sequential (sequentialEntry (sequentialOf e)) ≡ true
+unfolding couldHold numbersFrom right sequentialRule
+sequential-could e h =
+    let r = sequential-held e h in
+    rw (
+      le-leb 1 (getD e 3 0) (r .hA .0),
+      le-leb (getD e 3 0) 65535 (r .hA .1),
+      le-leb 1 (getD e 4 0) (r .hR .0),
+      le-leb (getD e 4 0) 65535 (r .hR .1),
+      le-leb 1 (getD e 5 0) (r .g .0),
+      le-leb (getD e 5 0) 60000 (r .g .1),
+      le-leb 1 (getD e 6 0) (r .nt .0),
+      le-leb (getD e 6 0) 3150 (r .nt .1),
+      le-leb 0 (getD e 7 0) (omega arith),
+      le-leb (getD e 7 0) 65535 (r .atNt),
+      sequential-fits e h,
+    )
