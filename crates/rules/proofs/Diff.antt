@@ -1,13 +1,13 @@
 -- An integer as the difference of two naturals: each operation of ℤ is one on the two naturals, so that omega can
 -- finish.
 -- Assumes nothing.
-use mathlib.Core.Path.{_≡_, refl, sym, _∙_, ap, subst}
+use mathlib.Core.Path.{_≡_, refl, sym, ap}
 use mathlib.Core.Bool.{Bool, true, false, cond}
-use Prim.Native.Nat.{ℕ, zero, suc, _+_, _*_, _-_, _≤_, _<_}
-use native.Mathlib.Nat.{add-mul, mul-add, mul-comm, mul-suc, suc-mul, zero-mul, mul-zero}
+use Prim.Native.Nat.{ℕ, zero, suc, _+_, _*_, _-_, _≤_}
+use native.Mathlib.Nat.{add-mul, mul-add}
 use native.Mathlib.Omega.{arith}
-use lib.Dec.{ltb, leb, T}
-use borrow.Author.Tests.{lt-ltb, le-ltb, le-leb, lt-leb, ltb-true, ltb-false, leb-true, leb-false}
+use lib.Dec.{ltb, leb}
+use borrow.Author.Tests.{le-leb, lt-leb, ltb-true, ltb-false, leb-true}
 use lib.IntN.{ℤ, pos, negsuc, subℕ, negℤ, _+ℤ_, _-ℤ_, _*ℤ_}
 use lib.Signed.{leZ}
 
@@ -54,6 +54,19 @@ diff-unique {x = pos n} {y = pos m} h k = ap pos (omega arith)
 diff-unique {x = pos n} {y = negsuc m} h k = absurd (omega arith)
 diff-unique {x = negsuc n} {y = pos m} h k = absurd (omega arith)
 diff-unique {x = negsuc n} {y = negsuc m} h k = ap negsuc (omega arith)
+
+-- the difference itself; and what it is of, where it is known of a sum
+pub diff-of : (a b : ℕ) → Diff (pos a -ℤ pos b) a b
+diff-of a b = move a b (diff-minus (diff-pos a) (diff-pos b)) (omega arith)
+
+pub as-difference : {z : ℤ} {a b : ℕ} → Diff z a b → z ≡ pos a -ℤ pos b
+as-difference {a = a} {b = b} h = diff-unique h (diff-of a b)
+
+pub diff-raised : (z : ℤ) (a b : ℕ) → pos a ≡ z +ℤ pos b → Diff z a b
+diff-raised (pos n) a b e = let f : a ≡ n + b = cc in omega arith
+diff-raised (negsuc n) a b e =
+    let d : Diff (pos a) b (suc n) = rw e (diff-sub b (suc n)) in
+    omega arith
 
 pub bool-same : (p q : Bool) → (p ≡ true → q ≡ true) → (q ≡ true → p ≡ true) → p ≡ q
 bool-same true true f g = refl

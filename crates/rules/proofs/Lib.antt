@@ -17,6 +17,7 @@ pub mod LookUp
 pub mod Numbers
 pub mod Parts
 pub mod Range
+pub mod Readings
 pub mod Refusals
 pub mod Resubmitted
 pub mod Runs

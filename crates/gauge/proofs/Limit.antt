@@ -1,0 +1,55 @@
+-- The range of a limit, as signed numbers are compared, and a limit in range plus 1,000.
+-- Assumes nothing.
+use Prim.Native.Nat.{suc, _+_, _-_, _≤_}
+use mathlib.Core.Path.{_≡_, refl}
+use mathlib.Core.Bool.{Bool, true, false, _&&_}
+use native.Mathlib.Omega.{arith}
+use borrow.Author.Tests.{ltb-true, ltb-false, leb-true, le-ltb, le-leb, lt-leb}
+use lib.Dec.{T, leb}
+use lib.IntN.{ℤ, pos, negsuc, natAbs, _+ℤ_, _-ℤ_}
+use lib.Signed.{leZ, ltZ, nonNeg}
+use mir.Syntax.{w32}
+use mir.Val.{SFits}
+use Rattle.rules.specs.Variables.{inGauge}
+use Rattle.rules.proofs.Diff.{as-difference}
+
+pub below : (z : ℤ) → ltZ z (negsuc 999) ≡ true → false ≡ inGauge z
+unfolding inGauge
+below (pos n) e = cc
+below (negsuc n) e = rw (lt-leb n 999 (ltb-true 999 n e)) refl
+
+pub not-below : (z : ℤ) → ltZ z (negsuc 999) ≡ false → leZ z (pos 1000) ≡ inGauge z
+unfolding inGauge
+not-below (pos n) e = refl
+not-below (negsuc n) e = rw (le-leb n 999 (ltb-false 999 n e)) refl
+
+-- y is z + 1,000
+pub record Raised (z y : ℤ) : Type 0 where
+  pub fits : SFits w32 y
+  pub natural : T (nonNeg y)
+  pub small : natAbs y ≤ 2000
+  pub back : z ≡ pos (natAbs y) -ℤ pos 1000
+
+and-true : (b : Bool) → (b && true) ≡ true → b ≡ true
+and-true true e = refl
+and-true false e = e
+
+pub raise : (z : ℤ) → inGauge z ≡ true → Raised z (z +ℤ pos 1000)
+unfolding inGauge
+raise (pos n) e =
+    let l : n ≤ 1000 = leb-true n 1000 e in
+    record {
+      fits = omega arith;
+      natural = tt;
+      small = omega arith;
+      back = as-difference {a = n + 1000} {b = 1000} (omega arith);
+    }
+raise (negsuc n) e =
+    let l : n ≤ 999 = leb-true n 999 (and-true (leb n 999) e) in
+    rw (le-ltb 1000 (suc n) (omega arith))
+    (record {
+      fits = omega arith;
+      natural = tt;
+      small = omega arith;
+      back = as-difference {a = 1000 - suc n} {b = 1000} (omega arith);
+    })

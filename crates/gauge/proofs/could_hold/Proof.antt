@@ -1,0 +1,29 @@
+-- `gauge::could_hold` meets its contract.
+-- Assumes nothing.
+use mathlib.Core.Path.{refl}
+use borrow.Author.Tests.{le-leb, lt-leb}
+use Rattle.gauge.proofs.could_hold.Statement.{statement}
+use Rattle.gauge.proofs.could_hold.Tie as tie
+
+returns : tie.Need-returns
+returns c = rw (lt-leb 2 (c .before .args .n) (c .if1 .taken)) refl
+
+returns-2 : tie.Need-returns-2
+returns-2 c =
+    let n = c .before .before .args .n in
+    rw (le-leb 2 n (c .before .if1 .left), lt-leb n 50 (c .if2 .taken)) refl
+
+returns-3 : tie.Need-returns-3
+returns-3 c =
+    let n = c .before .before .before .args .n in
+    let k = c .before .before .before .args .k in
+    rw (le-leb 2 n (c .before .before .if1 .left), le-leb n 50 (c .before .if2 .left), lt-leb 1 k (c .if3 .taken)) refl
+
+returns-4 : tie.Need-returns-4
+returns-4 c =
+    let n = c .before .before .before .args .n in
+    let k = c .before .before .before .args .k in
+    rw (le-leb 2 n (c .before .before .if1 .left), le-leb n 50 (c .before .if2 .left), le-leb 1 k (c .if3 .left)) refl
+
+pub could-hold-spec : {M : Type 1} → statement M
+could-hold-spec = tie.close (tie.spec returns returns-2 returns-3 returns-4)
