@@ -13,7 +13,7 @@ use Rattle.rules.specs.Book.{Kind, Range, within, anything, right, numbe
 use Rattle.rules.specs.Book.{reducedSingles, sequential, variables, sequentialRule, atFits}
 use Rattle.rules.specs.Book.{sequentialOf, variablesOf}
 use Rattle.rules.specs.Codes.{letterOf}
-use Rattle.rules.specs.Single.{Plan}
+use Rattle.rules.specs.Single.{Plan, cutTo}
 use Rattle.rules.specs.Sequential.{SequentialPlan, onAcceptLine, onRejectLine}
 use Rattle.rules.specs.Variables.{VariablesPlan}
 use Rattle.rules.specs.Entries.{Asked, singleEntry, sequentialEntry, variablesEntry, reducedPlan}
@@ -83,22 +83,20 @@ single-held e h letter =
     let b = in-range reducedSingles e h 3 (omega arith) in
     record { some = a .0; few = a .1; ac = b .1 }
 
--- a cut keeps the plan right
-pub reduced-held : (q : Asked) → 1 ≤ q .size → (e : List ℕ) → Held reducedSingles e → SingleRight (reducedPlan q e)
-reduced-held q s e h = go (leb (q .size) (getD e 2 0)) refl
+-- a cut to the lot keeps a plan right
+pub cut-right : (lot : ℕ) → 1 ≤ lot → (p : Plan) → SingleRight p
+    → SingleRight (record { letter = p .letter; n = cutTo lot (p .n); ac = p .ac })
+cut-right lot s p r = go (leb lot (p .n)) refl
   where
-    r : SingleRight (record { letter = letterOf (q .size) (q .level); n = getD e 2 0; ac = getD e 3 0 })
-    r = single-held e h (letterOf (q .size) (q .level))
-
-    go : (t : Bool) → leb (q .size) (getD e 2 0) ≡ t → SingleRight (record {
-      letter = letterOf (q .size) (q .level);
-      n = cond t (q .size) (getD e 2 0);
-      ac = getD e 3 0;
-    })
-    go true t =
-        let l : q .size ≤ getD e 2 0 = leb-true (q .size) (getD e 2 0) t in
-        record { some = s; few = omega (arith, r .few); ac = r .ac }
+    go : (t : Bool) → leb lot (p .n) ≡ t
+        → SingleRight (record { letter = p .letter; n = cond t lot (p .n); ac = p .ac })
+    go true t = record { some = s; few = omega (arith, leb-true lot (p .n) t, r .few); ac = r .ac }
     go false t = r
+
+pub reduced-held : (q : Asked) → 1 ≤ q .size → (e : List ℕ) → Held reducedSingles e → SingleRight (reducedPlan q e)
+reduced-held q s e h =
+    cut-right (q .size) s (record { letter = letterOf (q .size) (q .level); n = getD e 2 0; ac = getD e 3 0 })
+    (single-held e h (letterOf (q .size) (q .level)))
 
 pub single-right : (p : Plan) → couldHold reducedSingles (singleEntry p) ≡ true → SingleRight p
 single-right p h = single-held (singleEntry p) (held reducedSingles (singleEntry p) h) (p .letter)

@@ -8,6 +8,7 @@ pub mod Deciding
 pub mod Demands
 pub mod Diff
 pub mod Faults
+pub mod GivenPlans
 pub mod HeldPlans
 pub mod HeldStaged
 pub mod Histories
@@ -27,6 +28,7 @@ pub mod Stays
 pub mod Steps
 pub mod Switches
 pub mod Tables
+pub mod TypedBooks
 pub mod Walks
 pub mod Window
 pub mod Worked
