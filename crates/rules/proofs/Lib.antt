@@ -24,6 +24,7 @@ pub mod Resubmitted
 pub mod Runs
 pub mod SampleSteps
 pub mod SectionKinds
+pub mod Slips
 pub mod Stays
 pub mod Steps
 pub mod Switches

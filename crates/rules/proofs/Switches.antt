@@ -2,7 +2,7 @@
 -- Assumes nothing.
 use Prim.Native.Nat.{ℕ, zero, suc, _*_, _≤_}
 use mathlib.Core.Path.{_≡_, refl, ap, _∙_}
-use mathlib.Core.Bool.{Bool, true, false, cond, _&&_, not}
+use mathlib.Core.Bool.{Bool, true, false, cond, _&&_, not, and-eq-true-iff}
 use mathlib.Core.List.{List, [], _∷_}
 use mathlib.Core.Logic.{_⊎_, inl, inr}
 use native.Mathlib.Omega.{arith}
@@ -11,7 +11,7 @@ use lib.Dec.{leb}
 use lib.ListN.{length, take}
 use Rattle.rules.specs.Codes.{normal, tightened, reduced, stopped}
 use Rattle.rules.specs.Severity.{Lot, addThree, addTwo, scoreZero, notAccepted, accepted, Event, lot}
-use Rattle.rules.specs.Severity.{resubmitted, steadyIs, permissionIs, corrective, unknown}
+use Rattle.rules.specs.Severity.{resubmitted, steadyIs, permissionIs, corrective, unknown, due}
 use Rattle.rules.specs.Reading.{steadyIn, permissionIn, notAcceptedIn, runOf, pointsOf, scoreOf, Stay, stayOf}
 use Rattle.rules.specs.Reading.{readSettled, readNormal, readTightened, readLot, readOrder, readEvent}
 use Rattle.rules.specs.Reading.{stayAfter, severityRead, lotsWith, staysIn}
@@ -64,15 +64,20 @@ last-accepted (suc k) (l ∷ ls) h = go (accepted l) h (λ g. last-accepted k ls
 abbrev Turns : ℕ → List Lot → Bool → Bool → Type 0
 Turns s ls st pe = (s ≡ normal) × (st ≡ true) × (pe ≡ true) × (10 ≤ runOf ls)
 
+-- "score 30, steady and permission all standing"
+due-all : (score : ℕ) (st pe : Bool) → due score st pe ≡ true → (30 ≤ score) × (st ≡ true) × (pe ≡ true)
+due-all score st pe h =
+    let a = and-eq-true-iff (leb 30 score) (st && pe) .0 h in
+    let b = and-eq-true-iff st pe .0 (a .1) in
+    (leb-true 30 score (a .0), b .0, b .1)
+
 settled-turns : (ls : List Lot) (st pe : Bool) → readSettled ls st pe .severity ≡ reduced → Turns normal ls st pe
-settled-turns ls st pe h = go (leb 30 (scoreOf ls)) refl st pe h
+settled-turns ls st pe h = go (due (scoreOf ls) st pe) refl h
   where
-    go : (d : Bool) → leb 30 (scoreOf ls) ≡ d → (st pe : Bool)
-        → cond (d && (st && pe)) (stayOf reduced []) (stayOf normal ls) .severity ≡ reduced → Turns normal ls st pe
-    go true e true true h = (refl, refl, refl, omega (arith, leb-true 30 (scoreOf ls) e, points-run ls))
-    go true e true false h = absurd (omega arith)
-    go true e false pe h = absurd (omega arith)
-    go false e st pe h = absurd (omega arith)
+    go : (d : Bool) → due (scoreOf ls) st pe ≡ d
+        → cond d (stayOf reduced []) (stayOf normal ls) .severity ≡ reduced → Turns normal ls st pe
+    go true e h = let a = due-all (scoreOf ls) st pe e in (refl, a .1, a .2, omega (arith, points-run ls))
+    go false e h = absurd (omega arith)
 
 normal-turns : (l : Lot) (ls : List Lot) (st pe : Bool) → readNormal l ls st pe .severity ≡ reduced
     → Turns normal (l ∷ ls) st pe

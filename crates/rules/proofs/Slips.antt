@@ -1,0 +1,69 @@
+-- Document 01, 'Slips that look harmless', of the severity record: histories at which a slip would end elsewhere; and
+-- which refusal a history reports, at which place.
+-- Assumes nothing.
+use Prim.Native.Nat.{ℕ}
+use mathlib.Core.Path.{_≡_, refl}
+use mathlib.Core.List.{List, [], _∷_, _++_}
+use lib.ListN.{length, replicate}
+use Rattle.rules.specs.Refusals.{Answer, refused, given}
+use Rattle.rules.specs.Severity.{onLot, onResubmitted, onOrder, onCorrective, step}
+use Rattle.rules.specs.Reading.{severityRead, stayAfter, steadyIn, permissionIn, notAcceptedIn, runOf}
+use Rattle.rules.specs.Reading.{pointsOf, readLot, readOrder, readEvent}
+use Rattle.rules.specs.History.{ours, past, eventIn, eventOf, afterFrom, listed}
+
+ends : List ℕ → List ℕ
+ends h = severityRead (ours .permission) (past ours h (length h)) ∷ []
+
+-- a refusal with its place; how many severities are listed
+answered : Answer ℕ → List ℕ
+answered (refused n place) = n ∷ place ∷ []
+answered (given m) = m ∷ []
+
+-- from normal to tightened, with four not accepted there
+nearStopped : List ℕ
+nearStopped = replicate 6 3
+
+pub computed : List (List ℕ)
+computed =
+    -- "Testing the score alone for reduced."
+    ends (replicate 10 0)
+    ∷ ends (5 ∷ replicate 10 0)
+    ∷ ends (7 ∷ replicate 10 0)
+    ∷ ends (replicate 10 0 ++ (5 ∷ 7 ∷ []))
+    -- "Letting a window or the tightened count run across a change of severity."
+    ∷ ends ((5 ∷ 7 ∷ replicate 10 0) ++ (3 ∷ 3 ∷ []))
+    ∷ ends ((5 ∷ 7 ∷ replicate 10 0) ++ (3 ∷ 3 ∷ 3 ∷ []))
+    ∷ ends nearStopped
+    ∷ ends (nearStopped ++ (3 ∷ []))
+    ∷ ends (nearStopped ++ (replicate 5 0 ++ (3 ∷ 3 ∷ 3 ∷ [])))
+    -- "a history reports its first bad byte (1, 5 or 10, with its place counted from 0) before 11"
+    ∷ answered (listed ours (0 ∷ 12 ∷ []) 0)
+    ∷ answered (listed ours (nearStopped ++ (3 ∷ 0 ∷ [])) 0)
+    ∷ answered (listed ours (9 ∷ []) 0)
+    ∷ answered (listed ours (0 ∷ []) 0)
+    ∷ answered (listed ours (0 ∷ []) 1)
+    ∷ []
+
+pub said : List (List ℕ)
+said =
+    (0 ∷ [])
+    ∷ (0 ∷ [])
+    ∷ (0 ∷ [])
+    ∷ (2 ∷ [])
+    ∷ (0 ∷ [])
+    ∷ (1 ∷ [])
+    ∷ (1 ∷ [])
+    ∷ (3 ∷ [])
+    ∷ (1 ∷ [])
+    ∷ (1 ∷ 1 ∷ [])
+    ∷ (5 ∷ 7 ∷ [])
+    ∷ (10 ∷ 0 ∷ [])
+    ∷ (11 ∷ 0 ∷ [])
+    ∷ (1 ∷ [])
+    ∷ []
+
+pub slips : computed ≡ said
+unfolding computed said ends answered nearStopped listed afterFrom stayAfter steadyIn permissionIn notAcceptedIn runOf
+    pointsOf readLot readOrder readEvent past eventIn eventOf step onLot onResubmitted onOrder onCorrective
+    lib.Count.ones
+slips = refl
