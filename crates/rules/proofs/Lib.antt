@@ -33,3 +33,4 @@ pub mod TypedBooks
 pub mod Walks
 pub mod Window
 pub mod Worked
+pub mod WorkedBooks

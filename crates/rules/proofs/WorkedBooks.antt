@@ -1,0 +1,115 @@
+-- Small books and what checking them finds, together, as one list under one claim: each kind of fault at its byte, and
+-- the numbers on both sides of each bound.
+-- Assumes nothing.
+use Prim.Native.Nat.{ℕ, _/_, _%_}
+use mathlib.Core.Path.{_≡_, refl}
+use mathlib.Core.List.{List, [], _∷_, _++_, map}
+use lib.ListN.{set, replicate}
+use Rattle.rules.specs.Numbers.{numbersOf}
+use Rattle.rules.specs.Book.{Checked, sound, brokenAt, checkBook, checkedAs, sections, section, entries, entry}
+use Rattle.rules.specs.Book.{keyFalls, rises, numbersFrom, right, stagedRule, stagedNumber, acKeeps, reKeeps}
+use Rattle.rules.specs.Book.{sequentialRule, atFits, shift, thenFrom}
+
+abbrev bytesOf : List ℕ → List ℕ
+bytesOf [] = []
+bytesOf (x ∷ xs) = (x % 256) ∷ (x / 256) ∷ bytesOf xs
+
+-- a sound book of 44 numbers: two reduced singles, a staged plan, a sequential and a variables plan
+whole : List ℕ
+whole =
+    (2 ∷ 0 ∷ 0 ∷ 5 ∷ 0 ∷ 0 ∷ 1 ∷ 5 ∷ 0 ∷ [])
+    ++ (1 ∷ 0 ∷ 3 ∷ 10 ∷ 5 ∷ 3 ∷ 3 ∷ 3 ∷ 3 ∷ 3 ∷ 65535 ∷ 2 ∷ 0 ∷ 3 ∷ 0 ∷ 3 ∷ 1 ∷ 3 ∷ 3 ∷ 4 ∷ [])
+    ++ (1 ∷ 1 ∷ 3 ∷ 10 ∷ 1750 ∷ 2247 ∷ 9570 ∷ 98 ∷ 9 ∷ [])
+    ++ (1 ∷ 2 ∷ 15 ∷ 15 ∷ 3 ∷ 4000 ∷ [])
+
+-- the same with another number at a place
+with : ℕ → ℕ → List ℕ
+with place x = bytesOf (set whole place x)
+
+pub record Case : Type 0 where
+  pub book : List ℕ
+  pub answer : Checked
+
+infix 20 _is_
+abbrev _is_ : List ℕ → Checked → Case
+book is answer = record { book = book; answer = answer }
+
+pub cases : List Case
+cases =
+    -- four empty sections, and a whole book
+    (replicate 8 0 is sound)
+    ∷ (bytesOf whole is sound)
+    -- "the book's length where a number is missing or half there": no number, half a number, a column, an entry
+    ∷ ([] is brokenAt 0)
+    ∷ (replicate 7 0 is brokenAt 7)
+    ∷ (bytesOf (2 ∷ 1 ∷ 0 ∷ 5 ∷ 0 ∷ 0 ∷ []) is brokenAt 12)
+    ∷ (with 38 2 is brokenAt 88)
+    -- "the first byte after the fourth section": a byte, a number, an entry that no count names
+    ∷ (replicate 9 0 is brokenAt 8)
+    ∷ (replicate 10 0 is brokenAt 8)
+    ∷ (with 38 0 is brokenAt 78)
+    -- "At most 32,768 bytes"
+    ∷ (replicate 32768 0 is brokenAt 8)
+    ∷ (replicate 32769 0 is brokenAt 32768)
+    -- "the entry's first number where its whole key doesn't rise": the same key, one lower by its second and by its
+    -- first number, and a second number that is lower where the first rises
+    ∷ (with 6 0 is brokenAt 10)
+    ∷ (bytesOf (2 ∷ 0 ∷ 1 ∷ 5 ∷ 0 ∷ 0 ∷ 0 ∷ 5 ∷ 0 ∷ 0 ∷ 0 ∷ 0 ∷ []) is brokenAt 10)
+    ∷ (bytesOf (2 ∷ 1 ∷ 0 ∷ 5 ∷ 0 ∷ 0 ∷ 99 ∷ 5 ∷ 0 ∷ 0 ∷ 0 ∷ 0 ∷ []) is brokenAt 10)
+    ∷ (bytesOf (2 ∷ 0 ∷ 1 ∷ 5 ∷ 0 ∷ 1 ∷ 0 ∷ 5 ∷ 0 ∷ 0 ∷ 0 ∷ 0 ∷ []) is sound)
+    -- reduced singles: letter, column, n, Ac
+    ∷ (with 5 15 is sound)
+    ∷ (with 5 16 is brokenAt 10)
+    ∷ (with 6 25 is sound)
+    ∷ (with 6 26 is brokenAt 12)
+    ∷ (with 3 0 is brokenAt 6)
+    ∷ (with 3 3150 is sound)
+    ∷ (with 3 3151 is brokenAt 6)
+    ∷ (with 4 65534 is sound)
+    ∷ (with 4 65535 is brokenAt 8)
+    -- staged: severity, letter, column, stages, sizes
+    ∷ (with 10 3 is brokenAt 20)
+    ∷ (with 11 16 is brokenAt 22)
+    ∷ (with 12 25 is sound)
+    ∷ (with 12 26 is brokenAt 24)
+    ∷ (with 13 1 is brokenAt 26)
+    ∷ (with 13 8 is brokenAt 26)
+    ∷ (with 14 0 is brokenAt 28)
+    ∷ (with 18 2000 is sound)
+    ∷ (with 18 2001 is brokenAt 36)
+    -- a mark is exempt, stands only before numbers, and not at the last stage; "Re up to 65,534"
+    ∷ (with 20 0 is sound)
+    ∷ (with 20 65535 is brokenAt 40)
+    ∷ (with 21 65535 is sound)
+    ∷ (with 23 65535 is brokenAt 46)
+    ∷ (with 27 65535 is brokenAt 54)
+    -- Ac falls, Re falls, Ac is not under Re, the last Re is not Ac + 1
+    ∷ (with 23 2 is brokenAt 50)
+    ∷ (with 26 2 is brokenAt 52)
+    ∷ (with 25 3 is brokenAt 52)
+    ∷ (with 28 3 is brokenAt 56)
+    ∷ (with 28 5 is brokenAt 56)
+    -- sequential: column, hA, hR, g, nt, At
+    ∷ (with 32 16 is brokenAt 64)
+    ∷ (with 33 0 is brokenAt 66)
+    ∷ (with 34 0 is brokenAt 68)
+    ∷ (with 35 60001 is brokenAt 70)
+    ∷ (with 36 0 is brokenAt 72)
+    ∷ (with 36 3151 is brokenAt 72)
+    ∷ (with 37 6 is brokenAt 74)
+    ∷ (with 37 7 is sound)
+    ∷ (with 37 11 is sound)
+    ∷ (with 37 12 is brokenAt 74)
+    -- variables: column, n, K
+    ∷ (with 41 16 is brokenAt 82)
+    ∷ (with 42 1 is brokenAt 84)
+    ∷ (with 42 50 is sound)
+    ∷ (with 42 51 is brokenAt 84)
+    ∷ (with 43 0 is brokenAt 86)
+    ∷ (with 43 4001 is brokenAt 86)
+    ∷ []
+
+pub worked-books : map (λ c. checkBook (c .book)) cases ≡ map (λ c. c .answer) cases
+unfolding cases whole with checkBook numbersOf checkedAs sections section entries entry shift thenFrom keyFalls rises
+    numbersFrom right stagedRule stagedNumber acKeeps reKeeps sequentialRule atFits
+worked-books = refl
