@@ -86,6 +86,12 @@ module _ (w : Work) where
       rw (past-whole (earlier ++ later), past-whole later, past-whole earlier, map-append (eventIn w) earlier later)
       (reverse-append (map (eventIn w) earlier) (map (eventIn w) later))
 
+  -- one byte more
+  pub past-more : (h : List ℕ) (b : ℕ)
+      → past w (h ++ (b ∷ [])) (length (h ++ (b ∷ []))) ≡ eventIn w b ∷ past w h (length h)
+  unfolding past
+  past-more h b = past-append h (b ∷ [])
+
   module _ (known : w .knows 4 ≡ true) where
     four : eventIn w 4 ≡ resubmitted
     unfolding eventIn eventOf

@@ -1,12 +1,12 @@
 -- Document 01, 'Severity record', a history of bytes: the list of its severities, and its refusals. Definitions only.
 use Prim.Native.Nat.{ℕ, zero, suc}
-use mathlib.Core.Bool.{Bool, true, false, cond, not}
+use mathlib.Core.Bool.{Bool, true, false, cond}
 use mathlib.Core.List.{List, [], _∷_}
 use lib.Dec.{leb, ltb, eqb}
 use lib.ListN.{length, getD, set}
-use Rattle.rules.specs.Refusals.{Answer, refused, given, firstOf, _gives_, andThen, unknownForm, bufferShort}
-use Rattle.rules.specs.Severity.{Lot, addThree, addTwo, scoreZero, notAccepted, typed, Event, lot, resubmitted}
-use Rattle.rules.specs.Severity.{steadyIs, permissionIs, corrective, unknown, Record, fresh, step, inRange}
+use Rattle.rules.specs.Refusals.{Answer, refused, given, firstOf, _gives_, andThen, bufferShort}
+use Rattle.rules.specs.Severity.{addThree, addTwo, scoreZero, notAccepted, typed, Event, lot, resubmitted}
+use Rattle.rules.specs.Severity.{steadyIs, permissionIs, corrective, unknown, Record, fresh, step}
 use Rattle.rules.specs.Reading.{severityRead}
 
 -- "0, 1, 2 accepted (add 3, add 2, score 0), 3 not accepted, 4 resubmitted, 5 steady, 6 not steady, 7 permission, 8

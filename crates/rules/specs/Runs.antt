@@ -1,17 +1,17 @@
 -- What a bench really does: a run of calls, the record that they leave, and the history bytes that they stand for.
 -- Newest first. Definitions only.
 use Prim.Native.Nat.{ℕ}
-use mathlib.Core.Bool.{Bool, true, false, cond}
-use mathlib.Core.List.{List, [], _∷_, _++_, map}
+use mathlib.Core.Bool.{Bool, false, cond}
+use mathlib.Core.List.{List, [], _∷_, map}
 use lib.IntN.{ℤ}
-use Rattle.rules.specs.Refusals.{Answer, refused, given, andThen}
+use Rattle.rules.specs.Refusals.{Answer, refused, given}
 use Rattle.rules.specs.Verdict.{Verdict, Judged}
 use Rattle.rules.specs.Severity.{Lot, addThree, addTwo, scoreZero, notAccepted, Event, lot, resubmitted}
 use Rattle.rules.specs.Severity.{steadyIs, permissionIs, corrective, unknown, Record, fresh}
 use Rattle.rules.specs.Reading.{isResubmitted}
-use Rattle.rules.specs.History.{Work, eventOf, eventIn}
+use Rattle.rules.specs.History.{Work, eventIn}
 use Rattle.rules.specs.Entries.{Asked, Offered, Closed, eventFor, singleCounts, stagedCounts, closeSingle}
-use Rattle.rules.specs.Entries.{closeStaged, closeTotal, next, judgeSequential, judgeVariables}
+use Rattle.rules.specs.Entries.{closeStaged, closeTotal, next}
 
 -- A call: a lot closed from its sample, or by its total; a history byte, which is an order or a lot; a sequential or
 -- variables verdict in between.

@@ -5,7 +5,7 @@
 use Prim.Native.Nat.{ℕ}
 use mathlib.Core.Path.{_≡_, sym, ap, _∙_}
 use mathlib.Core.Bool.{Bool, true, not}
-use mathlib.Core.List.{List, _∷_, _++_, map, reverse}
+use mathlib.Core.List.{List, [], _∷_, _++_, map, reverse}
 use mathlib.Core.Logic.{_⊎_, inl, inr}
 use lib.ListN.{length}
 use Rattle.rules.specs.Refusals.{given}
@@ -21,7 +21,7 @@ use Rattle.rules.proofs.Agreement.{agree, severity-agrees}
 use Rattle.rules.proofs.Stays.{Every, AtMost25, tightened-stays}
 use Rattle.rules.proofs.Switches.{stopped-left, ReducedStarts, reduced-starts}
 use Rattle.rules.proofs.Resubmitted.{left-severities, without-resubmitted, resubmitted-in, resubmitted-reads}
-use Rattle.rules.proofs.Bytes.{past-whole, past-append, past-put-in, past-without}
+use Rattle.rules.proofs.Bytes.{corrective-byte, past-more, past-whole, past-append, past-put-in, past-without}
 use Rattle.rules.proofs.Runs.{ran-agrees, ran-agrees-bytes, ran-resubmitted, ran-without, OneCall, one-call}
 use Rattle.rules.proofs.Runs.{call-range}
 
@@ -61,6 +61,16 @@ pub history-stopped : (start : Bool) (e : Event) (es : List Event) → severityR
     → (severityRead start (e ∷ es) ≡ stopped) ⊎ (e ≡ corrective)
 history-stopped start e es h = stopped-left start e es h
 
+-- byte 9 is that order
+pub bytes-stopped : (w : Work) (h : List ℕ) (b : ℕ) → severityRead (w .permission) (past w h (length h)) ≡ stopped
+    → (severityRead (w .permission) (past w (h ++ (b ∷ [])) (length (h ++ (b ∷ [])))) ≡ stopped) ⊎ (b ≡ 9)
+bytes-stopped w h b s =
+    rw (past-more w h b) (go (stopped-left (w .permission) (eventIn w b) (past w h (length h)) s))
+  where
+    go : {P : Type 0} → P ⊎ (eventIn w b ≡ corrective) → P ⊎ (b ≡ 9)
+    go (inl p) = inl p
+    go (inr e) = inr (corrective-byte w b e)
+
 -- the severity after one call that entered an event
 after-call : (w : Work) (c : Call) (cs : List Call) (e : Event) → eventsRan w (c ∷ cs) ≡ e ∷ eventsRan w cs
     → ran w (c ∷ cs) .severity ≡ severityRead (w .permission) (e ∷ eventsRan w cs)
@@ -76,8 +86,7 @@ run-stopped w c cs h = go (one-call w c cs)
     left e q f (inl s) = inl (after-call w c cs e q ∙ s)
     left e q f (inr s) = inr (f s)
 
-    go : OneCall w c cs
-        → (ran w (c ∷ cs) .severity ≡ stopped) ⊎ (c ≡ byte 9)
+    go : OneCall w c cs → (ran w (c ∷ cs) .severity ≡ stopped) ⊎ (c ≡ byte 9)
     go (inl q) = inl (ap (λ (r : Record). r .severity) q ∙ h)
     go (inr x) =
         left (x .0) (x .1) (x .2)
