@@ -2,11 +2,10 @@
 -- a landing.
 -- Assumes nothing.
 use Prim.Native.Nat.{ℕ, _+_, _-_, _≤_, _<_}
-use mathlib.Core.Path.{_≡_, refl, ap, sym, _∙_}
+use mathlib.Core.Path.{_≡_, ap, sym, _∙_}
 use native.Mathlib.Omega.{arith}
-use lib.Dec.{leb, eqb}
 use borrow.Author.Tests.{eq-eqb, ne-eqb}
-use Rattle.rules.specs.Single.{Box, down, up, number, boxAt, Landing, landed, landing, acOf}
+use Rattle.rules.specs.Single.{down, up, number, boxAt, landed, landing, acOf}
 use Rattle.rules.proofs.Bounded.{by-le}
 use Rattle.rules.proofs.Tables.{up-positive}
 use Rattle.rules.proofs.Landing.{landing-number, landing-down, landing-up, landing-last-down, landing-last-up}

@@ -3,30 +3,12 @@
 use Prim.Native.Nat.{ℕ, _+_, _*_, _<_}
 use mathlib.Core.Path.{_≡_}
 use mathlib.Core.Bool.{Bool}
-use mathlib.Core.List.{List, [], _∷_}
+use mathlib.Core.List.{List}
 use lib.Dec.{T, eqb, eqb→eq}
 use lib.ListN.{getD}
 use Rattle.rules.specs.Codes.{tableOne}
 use Rattle.rules.proofs.Bounded.{all, all-at₂}
-
-abbrev pub letters : List (List ℕ)
-letters =
-    (0 ∷ 0 ∷ 0 ∷ 0 ∷ 0 ∷ 0 ∷ 1 ∷ [])
-    ∷ (0 ∷ 0 ∷ 0 ∷ 0 ∷ 0 ∷ 1 ∷ 2 ∷ [])
-    ∷ (0 ∷ 0 ∷ 1 ∷ 1 ∷ 1 ∷ 2 ∷ 3 ∷ [])
-    ∷ (0 ∷ 1 ∷ 1 ∷ 2 ∷ 2 ∷ 3 ∷ 4 ∷ [])
-    ∷ (1 ∷ 1 ∷ 2 ∷ 2 ∷ 2 ∷ 4 ∷ 5 ∷ [])
-    ∷ (1 ∷ 1 ∷ 2 ∷ 3 ∷ 3 ∷ 5 ∷ 6 ∷ [])
-    ∷ (1 ∷ 2 ∷ 3 ∷ 4 ∷ 4 ∷ 6 ∷ 7 ∷ [])
-    ∷ (1 ∷ 2 ∷ 3 ∷ 4 ∷ 5 ∷ 7 ∷ 8 ∷ [])
-    ∷ (2 ∷ 2 ∷ 4 ∷ 5 ∷ 6 ∷ 8 ∷ 9 ∷ [])
-    ∷ (2 ∷ 3 ∷ 4 ∷ 6 ∷ 7 ∷ 9 ∷ 10 ∷ [])
-    ∷ (2 ∷ 3 ∷ 5 ∷ 6 ∷ 8 ∷ 10 ∷ 11 ∷ [])
-    ∷ (2 ∷ 3 ∷ 5 ∷ 7 ∷ 9 ∷ 11 ∷ 12 ∷ [])
-    ∷ (3 ∷ 4 ∷ 6 ∷ 8 ∷ 10 ∷ 12 ∷ 13 ∷ [])
-    ∷ (3 ∷ 4 ∷ 6 ∷ 8 ∷ 11 ∷ 13 ∷ 14 ∷ [])
-    ∷ (3 ∷ 4 ∷ 7 ∷ 9 ∷ 12 ∷ 14 ∷ 15 ∷ [])
-    ∷ []
+use Rattle.plans.specs.Tables.{letters}
 
 module _ (row : List ℕ) (none : ℕ) where
   held : ℕ → ℕ → Bool

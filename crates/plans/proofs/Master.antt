@@ -1,10 +1,10 @@
 -- The code's rows are those of the master table, each proved once for both severities by one computed test; then the
 -- box that a row gives at a letter.
 -- Assumes nothing.
-use Prim.Native.Nat.{ℕ, zero, suc, _+_, _-_, _≤_, _<_}
-use mathlib.Core.Path.{_≡_, refl, ap, sym, _∙_}
+use Prim.Native.Nat.{ℕ, _+_, _-_, _≤_, _<_}
+use mathlib.Core.Path.{_≡_, refl, ap}
 use mathlib.Core.Bool.{Bool, true, false, cond, _&&_, and-false}
-use mathlib.Core.List.{List, [], _∷_}
+use mathlib.Core.List.{List, []}
 use native.Mathlib.Omega.{arith}
 use lib.Dec.{T, leb, leb→le, eqb, eqb→eq}
 use borrow.Author.Tests.{le-leb, lt-leb}
@@ -13,41 +13,8 @@ use Rattle.rules.specs.Single as paper
 use Rattle.rules.specs.Single.{Box, down, up, number, rowAt, boxAt, masterTable}
 use Rattle.rules.proofs.Bounded.{both-left, both-right, all, all-at, all-at₂}
 use Rattle.plans.specs.declared.Row.{Row}
+use Rattle.plans.specs.Tables.{row, master}
 use Rattle.plans.specs.Paper.{boxIn, rowPaper}
-
-abbrev pub row : ℕ → ℕ → ℕ → ℕ → Row
-row first last there elsewhere = record { 0 = first; 1 = last; 2 = there; 3 = elsewhere }
-
--- the code's rows, of s from 14 to 26
-abbrev pub master : List (List Row)
-master =
-    (row 0 0 0 0
-    ∷ row 0 0 254 255
-    ∷ row 15 15 255 254
-    ∷ row 0 0 1 1
-    ∷ row 0 0 2 2
-    ∷ row 0 0 3 3
-    ∷ row 0 0 5 5
-    ∷ row 0 0 7 7
-    ∷ row 0 0 10 10
-    ∷ row 0 0 14 14
-    ∷ row 0 0 21 21
-    ∷ row 0 4 30 255
-    ∷ row 0 4 44 255 ∷ [])
-    ∷ (row 0 0 254 254
-    ∷ row 0 0 0 0
-    ∷ row 0 0 254 255
-    ∷ row 0 0 254 254
-    ∷ row 0 0 1 1
-    ∷ row 0 0 2 2
-    ∷ row 0 0 3 3
-    ∷ row 0 0 5 5
-    ∷ row 0 0 8 8
-    ∷ row 0 0 12 12
-    ∷ row 0 0 18 18
-    ∷ row 0 4 27 255
-    ∷ row 0 4 41 255 ∷ [])
-    ∷ []
 
 sameBox : Box → Box → Bool
 sameBox down down = true

@@ -246,8 +246,7 @@ fn land(severity: u32, column: u32, letter: u8, left: u8) -> Landing
 pub fn cut(lot: u32, n: u16) -> u16
     ensures { λ r. ⌜ r ≡ cutTo lot n ⌝ }
 {
-    let size = n as u32;
-    if lot <= size {
+    if lot <= n as u32 {
         return lot as u16;
     }
     n

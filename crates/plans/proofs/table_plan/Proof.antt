@@ -4,10 +4,9 @@
 -- Assumes nothing.
 use mathlib.Core.Path.{_≡_, ap, sym, _∙_}
 use borrow.Author.Needs.{needs}
-use borrow.Author.Tests.{eq-eqb, ne-eqb}
 use native.Mathlib.Omega.{arith}
 use Rattle.rules.specs.Refusals.{given}
-use Rattle.rules.specs.Entries.{Asked, askedLetter, plainPlan}
+use Rattle.rules.specs.Entries.{Asked, askedLetter}
 use Rattle.rules.proofs.Checks.{asked-plannable, asked-letter, plain-refused, plain-reduced, plain-given}
 use Rattle.rules.proofs.Tables.{letter-within}
 use Rattle.plans.specs.Paper.{asked, letterPaper}

@@ -1,0 +1,58 @@
+-- The code's tables as lists: `proofs/` shows that they are those of rules. Definitions only.
+use Prim.Native.Nat.{ℕ}
+use mathlib.Core.List.{List, [], _∷_}
+use Rattle.plans.specs.declared.Row.{Row}
+
+-- a row of letters for each row of Table 1
+abbrev pub letters : List (List ℕ)
+letters =
+    (0 ∷ 0 ∷ 0 ∷ 0 ∷ 0 ∷ 0 ∷ 1 ∷ [])
+    ∷ (0 ∷ 0 ∷ 0 ∷ 0 ∷ 0 ∷ 1 ∷ 2 ∷ [])
+    ∷ (0 ∷ 0 ∷ 1 ∷ 1 ∷ 1 ∷ 2 ∷ 3 ∷ [])
+    ∷ (0 ∷ 1 ∷ 1 ∷ 2 ∷ 2 ∷ 3 ∷ 4 ∷ [])
+    ∷ (1 ∷ 1 ∷ 2 ∷ 2 ∷ 2 ∷ 4 ∷ 5 ∷ [])
+    ∷ (1 ∷ 1 ∷ 2 ∷ 3 ∷ 3 ∷ 5 ∷ 6 ∷ [])
+    ∷ (1 ∷ 2 ∷ 3 ∷ 4 ∷ 4 ∷ 6 ∷ 7 ∷ [])
+    ∷ (1 ∷ 2 ∷ 3 ∷ 4 ∷ 5 ∷ 7 ∷ 8 ∷ [])
+    ∷ (2 ∷ 2 ∷ 4 ∷ 5 ∷ 6 ∷ 8 ∷ 9 ∷ [])
+    ∷ (2 ∷ 3 ∷ 4 ∷ 6 ∷ 7 ∷ 9 ∷ 10 ∷ [])
+    ∷ (2 ∷ 3 ∷ 5 ∷ 6 ∷ 8 ∷ 10 ∷ 11 ∷ [])
+    ∷ (2 ∷ 3 ∷ 5 ∷ 7 ∷ 9 ∷ 11 ∷ 12 ∷ [])
+    ∷ (3 ∷ 4 ∷ 6 ∷ 8 ∷ 10 ∷ 12 ∷ 13 ∷ [])
+    ∷ (3 ∷ 4 ∷ 6 ∷ 8 ∷ 11 ∷ 13 ∷ 14 ∷ [])
+    ∷ (3 ∷ 4 ∷ 7 ∷ 9 ∷ 12 ∷ 14 ∷ 15 ∷ [])
+    ∷ []
+
+abbrev pub row : ℕ → ℕ → ℕ → ℕ → Row
+row first last there elsewhere = record { 0 = first; 1 = last; 2 = there; 3 = elsewhere }
+
+-- the code's rows, of s from 14 to 26
+abbrev pub master : List (List Row)
+master =
+    (row 0 0 0 0
+    ∷ row 0 0 254 255
+    ∷ row 15 15 255 254
+    ∷ row 0 0 1 1
+    ∷ row 0 0 2 2
+    ∷ row 0 0 3 3
+    ∷ row 0 0 5 5
+    ∷ row 0 0 7 7
+    ∷ row 0 0 10 10
+    ∷ row 0 0 14 14
+    ∷ row 0 0 21 21
+    ∷ row 0 4 30 255
+    ∷ row 0 4 44 255 ∷ [])
+    ∷ (row 0 0 254 254
+    ∷ row 0 0 0 0
+    ∷ row 0 0 254 255
+    ∷ row 0 0 254 254
+    ∷ row 0 0 1 1
+    ∷ row 0 0 2 2
+    ∷ row 0 0 3 3
+    ∷ row 0 0 5 5
+    ∷ row 0 0 8 8
+    ∷ row 0 0 12 12
+    ∷ row 0 0 18 18
+    ∷ row 0 4 27 255
+    ∷ row 0 4 41 255 ∷ [])
+    ∷ []
