@@ -1,3 +1,4 @@
 -- The mission's demands, each sentence a named theorem.
 -- Assumes nothing.
 pub mod Three
+pub mod Two

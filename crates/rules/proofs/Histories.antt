@@ -27,7 +27,7 @@ module _ (w : Work) (h : List ℕ) where
     abbrev pub From : ℕ → Answer Record
     From i = afterFrom start (past w h i)
 
-    from-suc : (i : ℕ) → From (suc i) ≡ andThen (From i) (λ t. placed i (step t (eventIn w (getD h i 0))))
+    pub from-suc : (i : ℕ) → From (suc i) ≡ andThen (From i) (λ t. placed i (step t (eventIn w (getD h i 0))))
     unfolding afterFrom past
     from-suc i = ap (λ (k : ℕ). andThen (From i) (λ t. placed k (step t (eventIn w (getD h i 0))))) (length-past w h i)
 

@@ -7,6 +7,7 @@ pub mod Checks
 pub mod Deciding
 pub mod Demands
 pub mod Diff
+pub mod EntryLaws
 pub mod Faults
 pub mod GivenPlans
 pub mod HeldPlans

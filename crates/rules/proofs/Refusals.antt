@@ -164,15 +164,32 @@ chain {low = low} (given x) r s =
           );
     }
 
+-- The same rows, seen from a lower number; and of a chain whose later answers are always given.
+pub seen-from : {A : Type 0} {low : ℕ} {Wrong : ℕ → Type 0} {a : Answer A} (k : ℕ) → k ≤ low → Reports low Wrong a
+    → Reports k Wrong a
+seen-from k h r = record { from = λ m w. le-trans h (r .from m w); if-given = r .if-given; if-refused = r .if-refused }
+
+pub goes-on : {A B : Type 0} {low : ℕ} {Wrong : ℕ → Type 0} {next : A → Answer B} (a : Answer A) → Reports low Wrong a
+    → ((x : A) → a ≡ given x → (y : B) × (next x ≡ given y)) → Reports low Wrong (andThen a next)
+goes-on (refused n p) r s =
+    record
+    { from = r .from
+    ; if-given = λ x e. absurd (refused-given e)
+    ; if-refused = λ m k e. r .if-refused m k (rw (← refused-number e, ← refused-place e)) }
+goes-on (given x) r s =
+    record
+    { from = r .from
+    ; if-given = λ y e. r .if-given x refl
+    ; if-refused = λ m k e. absurd (refused-given (sym e ∙ s x refl .1)) }
+
 -- No check finds something wrong.
-pub None : List Check → Type 0
+abbrev pub None : List Check → Type 0
 None [] = Unit
 None (c ∷ cs) = (c .wrong ≡ false) × None cs
 
 -- A list of checks is passed exactly where none finds something wrong, and then the answer is the rest's.
 pub first-given : {A : Type 0} (cs : List Check) (a : Answer A) (x : A)
     → (firstOf cs a ≡ given x) ↔ (None cs × (a ≡ given x))
-unfolding None
 first-given [] a x = (λ e. (tt, e), λ h. h .1)
 first-given (c ∷ cs) a x = on (c .wrong) (first-given cs a x)
   where

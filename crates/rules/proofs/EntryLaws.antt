@@ -1,0 +1,219 @@
+-- What the entries share: the rows 1 to 5 of a lot, a book that is checked first, a plan that only a book supplies, a
+-- sample judged on a plan, a lot closed; for each, what is refused and what is given.
+-- Assumes nothing.
+use Prim.Native.Nat.{ℕ, zero, suc, _+_, _*_, _≤_, _<_}
+use mathlib.Core.Path.{_≡_, refl, sym, ap, subst, _∙_}
+use mathlib.Core.Logic.{_↔_}
+use mathlib.Core.Bool.{Bool, true, false, cond, not, false≢true}
+use mathlib.Core.List.{List, [], _∷_, _++_}
+use native.Mathlib.Nat.{le-refl}
+use native.Mathlib.Omega.{arith}
+use borrow.Author.Tests.{ltb-true, ltb-false, lt-ltb, le-ltb, eqb-true, eq-eqb, ne-eqb, not-true, not-false, lt-leb}
+use lib.Dec.{ltb, eqb}
+use Rattle.rules.specs.Refusals.{Answer, refused, given, Check, _gives_, firstOf, andThen, noPlan, unknownForm}
+use Rattle.rules.specs.Verdict.{Verdict}
+use Rattle.rules.specs.Severity.{Lot, Event, sampled, lot, resubmitted, Record, step, onLot, onResubmitted, inRange}
+use Rattle.rules.specs.Book.{Checked, sound, brokenAt, checkBook, onSound, Found, found, nothing}
+use Rattle.rules.specs.Entries.{Asked, askedChecks, lookedUp, fromEntry, unlessAbove, judgedOn, onRecord, Closed}
+use Rattle.rules.specs.Entries.{Offered, eventFor, closedWith}
+use Rattle.rules.proofs.Answers.{refused-given, given-one, then-given}
+use Rattle.rules.proofs.LookUp.{broken-unsound}
+use Rattle.rules.proofs.Checks.{Plannable, plannable, passed}
+use Rattle.rules.proofs.Refusals.{Row, here, later, NoRow, Then, Reports, check, stops, passes, nothing-wrong}
+use Rattle.rules.proofs.Refusals.{chain, goes-on, None, first-given}
+use Rattle.rules.specs.Verdict.{Judged}
+
+-- 1 to 5, "of every entry that judges or plans a lot", and then its own rows.
+abbrev pub LotRows : Asked → (ℕ → Type 0) → ℕ → Type 0
+LotRows q more =
+    Row 1 (3 < q .severity)
+    (Row 2 (q .size < 2) (Row 3 (6 < q .level) (Row 4 (25 < q .column) (Row 5 (q .severity ≡ 3) more))))
+
+pub lot-reports : {A : Type 0} {more : ℕ → Type 0} {rest : Answer A} (q : Asked) → Reports 6 more rest
+    → Reports 1 (LotRows q more) (firstOf (askedChecks q) rest)
+lot-reports q r =
+    check 1 (ltb 3 (q .severity)) (ltb-true 3 (q .severity)) (lt-ltb 3 (q .severity)) (omega arith)
+    (check 2 (ltb (q .size) 2) (ltb-true (q .size) 2) (lt-ltb (q .size) 2) (omega arith)
+    (check 3 (ltb 6 (q .level)) (ltb-true 6 (q .level)) (lt-ltb 6 (q .level)) (omega arith)
+    (check 4 (ltb 25 (q .column)) (ltb-true 25 (q .column)) (lt-ltb 25 (q .column)) (omega arith)
+    (check 5 (eqb (q .severity) 3) (eqb-true (q .severity) 3) (eq-eqb (q .severity) 3) (omega arith) r))))
+
+-- a lot that can be planned passes
+pub lot-passes : {A : Type 0} (q : Asked) (y : Answer A) → Plannable q → firstOf (askedChecks q) y ≡ y
+lot-passes q y h =
+    simp
+    (le-ltb 3 (q .severity) (omega arith), le-ltb (q .size) 2 (h .size), le-ltb 6 (q .level) (omega arith),
+    le-ltb 25 (q .column) (omega arith), ne-eqb (q .severity) 3 (λ e. omega arith))
+
+pub lot-given : {A : Type 0} (q : Asked) (y : Answer A) (x : A)
+    → (firstOf (askedChecks q) y ≡ given x) ↔ (Plannable q × (y ≡ given x))
+lot-given q y x =
+    (λ e. (plannable q y x e, sym (lot-passes q y (plannable q y x e)) ∙ e), λ h. lot-passes q y (h .0) ∙ h .1)
+
+-- "12 first", with its byte; of a sound book the lowest number.
+pub record OnBook {A : Type 0} (book : List ℕ) (Wrong : ℕ → Type 0) (a : Answer A) : Type 0 where
+  pub broken : (byte : ℕ) → checkBook book ≡ brokenAt byte → a ≡ refused 12 byte
+  pub else : checkBook book ≡ sound → Reports 1 Wrong a
+
+pub on-book : {A : Type 0} {Wrong : ℕ → Type 0} {a : Answer A} (book : List ℕ) → Reports 1 Wrong a
+    → OnBook book Wrong (onSound (checkBook book) a)
+on-book book r = record { broken = λ byte e. rw e; else = λ e. rw e r }
+
+pub sound-given : {A : Type 0} (c : Checked) (a : Answer A) (x : A)
+    → (onSound c a ≡ given x) ↔ ((c ≡ sound) × (a ≡ given x))
+sound-given sound a x = (λ e. (refl, e), λ h. h .1)
+sound-given (brokenAt byte) a x = (λ e. absurd (refused-given e), λ h. broken-unsound (h .0))
+
+found-something : {e : List ℕ} → found e ≡ nothing → ⊥
+found-something e = let z : _≡_ {A = ℕ} 0 1 = cc in omega arith
+
+found-one : {d e : List ℕ} → found d ≡ found e → d ≡ e
+found-one e = cc
+
+-- A plan that only the book supplies.
+module _ {P : Type 0} (section : ℕ) (needed : List ℕ → ℕ) (planOf : List ℕ → P) (q : Asked) (book : List ℕ) where
+  unfoldable pub fromBook : Answer P
+  fromBook =
+      onSound (checkBook book)
+      (firstOf (askedChecks q)
+      (fromEntry (lookedUp section q book) (λ e. unlessAbove (q .size) (needed e) (planOf e))))
+
+  -- "no book entry under the key, or a staged total, nt or variables n above the lot size"
+  pub data NoPlan : Type 0 where
+    no-entry : lookedUp section q book ≡ nothing → NoPlan
+    above : (e : List ℕ) → lookedUp section q book ≡ found e → q .size < needed e → NoPlan
+
+  above-so : (e : List ℕ) → lookedUp section q book ≡ found e → NoPlan → q .size < needed e
+  above-so e l (no-entry n) = absurd (found-something (sym l ∙ n))
+  above-so e l (above d f h) = subst (λ (x : List ℕ). q .size < needed x) (found-one (sym f ∙ l)) h
+
+  entry-reports : (f : Found) → lookedUp section q book ≡ f
+      → Reports 6 (Row 6 NoPlan NoRow) (fromEntry f (λ e. unlessAbove (q .size) (needed e) (planOf e)))
+  entry-reports nothing l = stops 6 (no-entry l) (le-refl 6) (λ m w. absurd w)
+  entry-reports (found e) l =
+      check 6 (ltb (q .size) (needed e)) (λ t. above e l (ltb-true (q .size) (needed e) t))
+      (λ w. lt-ltb (q .size) (needed e) (above-so e l w)) (le-refl 6) nothing-wrong
+
+  pub book-plan-reports : OnBook book (LotRows q (Row 6 NoPlan NoRow)) fromBook
+  unfolding fromBook
+  book-plan-reports = on-book book (lot-reports q (entry-reports (lookedUp section q book) refl))
+
+  -- the entry under the key, within the lot
+  pub record Supplies (plan : P) : Type 0 where
+    pub book-sound : checkBook book ≡ sound
+    pub lot : Plannable q
+    pub entry : List ℕ
+    pub under-key : lookedUp section q book ≡ found entry
+    pub within-lot : needed entry ≤ q .size
+    pub is-plan : planOf entry ≡ plan
+
+  entry-given : (plan : P) (f : Found) → fromEntry f (λ e. unlessAbove (q .size) (needed e) (planOf e)) ≡ given plan
+      → (e : List ℕ) × (f ≡ found e) × (needed e ≤ q .size) × (planOf e ≡ plan)
+  entry-given plan nothing g = absurd (refused-given g)
+  entry-given plan (found e) g =
+      let h = first-given ((ltb (q .size) (needed e) gives noPlan) ∷ []) (given (planOf e)) plan .0 g in
+      (e, refl, ltb-false (q .size) (needed e) (h .0 .0), given-one (h .1))
+
+  pub book-plan-given : (plan : P) → (fromBook ≡ given plan) ↔ Supplies plan
+  unfolding fromBook
+  book-plan-given plan = (so, back)
+    where
+      so : fromBook ≡ given plan → Supplies plan
+      so g =
+          let b = sound-given (checkBook book) _ plan .0 g in
+          let l = lot-given q _ plan .0 (b .1) in
+          let e = entry-given plan (lookedUp section q book) (l .1) in
+          record
+          { book-sound = b .0
+          ; lot = l .0
+          ; entry = e .0
+          ; under-key = e .1
+          ; within-lot = e .2
+          ; is-plan = e .3 }
+      back : Supplies plan → fromBook ≡ given plan
+      back s =
+          rw (s .book-sound)
+          (lot-passes q _ (s .lot)
+          ∙ rw (s .under-key, le-ltb (q .size) (needed (s .entry)) (s .within-lot)) (ap given (s .is-plan)))
+
+-- A sample judged on a plan.
+module _ {P Outcome : Type 0} (plan : Answer P) (judge : P → Answer Outcome) where
+  pub judged-reports : {low : ℕ} {unplanned : ℕ → Type 0} {wrong : P → ℕ → Type 0} → Reports low unplanned plan
+      → ((p : P) → plan ≡ given p → Reports low (wrong p) (judge p))
+      → Reports low (Then unplanned plan wrong) (andThen plan (judgedOn judge))
+  judged-reports r s = chain plan r (λ p e. goes-on (judge p) (s p e) (λ v f. (record { plan = p; verdict = v }, refl)))
+
+  pub judged-on-book : {unplanned : ℕ → Type 0} {wrong : P → ℕ → Type 0} (book : List ℕ) → OnBook book unplanned plan
+      → ((p : P) → Reports 1 (wrong p) (judge p))
+      → OnBook book (Then unplanned plan wrong) (andThen plan (judgedOn judge))
+  judged-on-book book b s =
+      record
+      { broken = λ byte e. rw (b .broken byte e)
+      ; else = λ e. judged-reports (b .else e) (λ p f. s p) }
+
+  pub judged-given : (j : Judged P Outcome)
+      → (andThen plan (judgedOn judge) ≡ given j) ↔ ((plan ≡ given (j .plan)) × (judge (j .plan) ≡ given (j .verdict)))
+  judged-given j = (so, λ h. rw (h .0) (rw (h .1)))
+    where
+      so : andThen plan (judgedOn judge) ≡ given j → (plan ≡ given (j .plan)) × (judge (j .plan) ≡ given (j .verdict))
+      so g =
+          let p = then-given plan (judgedOn judge) j g in
+          let v = then-given (judge (p .0)) _ j (p .2) in
+          let e : record { plan = p .0; verdict = v .0 } ≡ j = given-one (v .2) in
+          (p .1 ∙ ap (λ (k : Judged P Outcome). given (k .plan)) e,
+          subst (λ (k : Judged P Outcome). judge (k .plan) ≡ given (k .verdict)) e (v .1))
+
+lot-on : (s : ℕ) (l : Lot) (r : Record) → s < 3 → (t : Record) × (onLot s l r ≡ given t)
+unfolding onLot
+lot-on zero l r h = (_, refl)
+lot-on (suc zero) l r h = (_, refl)
+lot-on (suc (suc zero)) l r h = (_, refl)
+lot-on (suc (suc (suc s))) l r h = absurd (omega arith)
+
+-- A lot closed under a severity that is not stopped is always taken into the record.
+pub lot-steps : (r : Record) (o : Offered) (l : Lot) → r .severity < 3 → (t : Record) × (step r (eventFor o l) ≡ given t)
+unfolding step onResubmitted
+lot-steps r o l h = on (o .again)
+  where
+    on : (again : Bool) → (t : Record) × (step r (cond again resubmitted (lot sampled l)) ≡ given t)
+    on true = (r, rw (lt-leb 3 (r .severity) h))
+    on false = lot-on (r .severity) l r h
+
+-- A lot that is closed: its record, how it is judged, and then the step.
+module _ {P : Type 0} (r : Record) (o : Offered) (judged : Answer (Judged P Verdict)) (counts : Judged P Verdict → Lot) where
+  pub closing-reports : {Wrong : ℕ → Type 0} → Reports 1 Wrong judged
+      → ((j : Judged P Verdict) → judged ≡ given j → r .severity < 3)
+      → Reports 1 (Row 1 (inRange r ≡ false) Wrong) (onRecord r (andThen judged (closedWith r o counts)))
+  closing-reports s inspected =
+      check 1 (not (inRange r)) (not-true (inRange r)) (λ e. ap not e) (le-refl 1)
+      (goes-on judged s
+      (λ j e.
+      let t = lot-steps r o (counts j) (inspected j e) in
+      (record { judged = j; recordAfter = t .0 }, rw (t .1))))
+
+  -- taken into the record
+  pub record Closes (c : Closed P) : Type 0 where
+    pub in-range : inRange r ≡ true
+    pub as-judged : judged ≡ given (c .judged)
+    pub stepped : step r (eventFor o (counts (c .judged))) ≡ given (c .recordAfter)
+
+  pub closing-given : (c : Closed P) → (onRecord r (andThen judged (closedWith r o counts)) ≡ given c) ↔ Closes c
+  closing-given c = (so, λ k. rw (ap not (k .in-range), k .as-judged, k .stepped))
+    where
+      so : onRecord r (andThen judged (closedWith r o counts)) ≡ given c → Closes c
+      so g =
+          let h = first-given ((not (inRange r) gives unknownForm) ∷ []) _ c .0 g in
+          let j = then-given judged (closedWith r o counts) c (h .1) in
+          let t = then-given (step r (eventFor o (counts (j .0)))) _ c (j .2) in
+          let e : record { judged = j .0; recordAfter = t .0 } ≡ c = given-one (t .2) in
+          record
+          { in-range = not-false (inRange r) (h .0 .0)
+          ; as-judged = j .1 ∙ ap (λ (k : Closed P). given (k .judged)) e
+          ; stepped = subst (λ (k : Closed P). step r (eventFor o (counts (k .judged))) ≡ given (k .recordAfter)) e (t .1) }
+
+  pub closing-on-book : {Wrong : ℕ → Type 0} (book : List ℕ) → OnBook book Wrong judged
+      → ((j : Judged P Verdict) → judged ≡ given j → r .severity < 3)
+      → OnBook book (Row 1 (inRange r ≡ false) Wrong)
+      (onSound (checkBook book) (onRecord r (andThen judged (closedWith r o counts))))
+  closing-on-book book b inspected =
+      record { broken = λ byte e. rw e; else = λ e. rw e (closing-reports (b .else e) inspected) }
