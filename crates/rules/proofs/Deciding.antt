@@ -1,42 +1,37 @@
 -- Which samples are judged, with no walk in it: a sequential or staged sample has a verdict exactly where its last item
 -- (stage) decides, no earlier one does, all items are legal, and the items used are the sample's length.
 -- Assumes nothing.
-use Prim.Native.Nat.{ℕ, zero, suc, _+_, _≤_, _<_, suc-le-suc}
-use mathlib.Core.Path.{_≡_, refl, sym, ap, subst, _∙_}
+use Prim.Native.Nat.{ℕ, zero, suc, _+_, _-_, _≤_, _<_, suc-le-suc}
+use mathlib.Core.Path.{_≡_, refl, sym, ap, _∙_}
 use mathlib.Core.Logic.{_↔_, _⊎_, inl, inr}
 use mathlib.Core.Bool.{Bool, true, false, cond}
 use mathlib.Core.List.{List, [], _∷_, map}
 use native.Mathlib.Nat.{add-zero, le-of-suc-le-suc, le-refl, zero-add}
 use native.Mathlib.Numerals.{add-one}
 use native.Mathlib.Omega.{arith}
-use borrow.Author.Tests.{ne-eqb, le-leb, lt-leb}
 use lib.Dec.{ltb}
-use lib.ListN.{length, getD, take, drop}
-use Rattle.rules.specs.Refusals.{Answer, refused, given, wrongLength, illegalItem}
+use lib.ListN.{length, getD, take}
+use Rattle.rules.specs.Refusals.{Answer, refused, given, illegalItem}
 use Rattle.rules.specs.Numbers.{numbersOf, halfLeft, sumOf}
 use Rattle.rules.specs.Codes.{illegal, anyIllegal}
-use Rattle.rules.specs.Verdict.{Verdict, Decision, accepts, rejects, goesOn, ended, decided}
+use Rattle.rules.specs.Verdict.{Verdict, goesOn, ended, decided}
 use Rattle.rules.specs.Sequential.{SequentialPlan, itemDecides, sequentialVerdict, sequentialFrom, judgeSequence}
 use Rattle.rules.specs.Staged.{Stage, StagedPlan, stagesFrom, stagesOf, totalSize, stageDecides, Taken}
 use Rattle.rules.specs.Staged.{missing, over}
-use Rattle.rules.specs.Staged.{taken, takeItems, Standing, stagedVerdict, afterStage, further, stagedFrom}
-use Rattle.rules.specs.Staged.{judgeStages, mark}
+use Rattle.rules.specs.Staged.{taken, takeItems, Standing, stagedVerdict, afterStage, stagedFrom}
+use Rattle.rules.specs.Staged.{judgeStages}
 use Rattle.rules.proofs.Parts.{Part, endOf, decidesAt, says, Decides, Say, afterPart, walk, Judged, sound}
 use Rattle.rules.proofs.Parts.{complete}
 use Rattle.rules.proofs.Parts.{Meets, Met, length-wrong, item-illegal, refused-met, meets-refused}
-use Rattle.rules.proofs.Bounded.{by-le}
 use Rattle.rules.proofs.Items.{illegal-means, illegal-when}
 use Rattle.rules.proofs.Answers.{refused-given}
-use Rattle.rules.proofs.Refusals.{Row, here, later, NoRow, Reports, stops, passes, nothing-wrong, refused-number}
+use Rattle.rules.proofs.Refusals.{Row, NoRow, Reports, stops, passes, nothing-wrong}
+use Rattle.rules.proofs.Refusals.{refused-number, last-from}
 use Rattle.rules.proofs.SampleSteps.{stageAt}
 
 -- 8 for an illegal item that a walk meets; 7 where it meets none and there is no verdict.
 abbrev pub SampleRows : (Verdict → Type 0) → Type 0 → ℕ → Type 0
 SampleRows Ends Meeting = Row 7 ((Meeting → ⊥) × ((v : Verdict) → Ends v → ⊥)) (Row 8 Meeting NoRow)
-
-from-eight : {fact : Type 0} (m : ℕ) → Row 8 fact NoRow m → 8 ≤ m
-from-eight m (here f) = le-refl 8
-from-eight m (later w) = absurd w
 
 met-kind : {Meeting : Type 0} (column total : ℕ) (ps : List Part) (xs : List ℕ) → (Meets column total ps xs → Meeting)
     → (n q : ℕ) → Met column total ps xs n q → ((n ≡ 7) × (q ≡ 0)) ⊎ ((n ≡ 8) × (q ≡ 0) × Meeting)
@@ -59,7 +54,7 @@ sample-reports Ends Meeting (refused n q) ends eight kind = on (kind n q refl)
         rw (e .0, e .1)
         (stops 7
         ((λ m. let z : n ≡ 8 = refused-number (eight m) in omega (arith, e .0)), λ v f. refused-given (ends v .1 f))
-        (omega arith) from-eight)
+        (omega arith) (last-from 8))
     on (inr e) =
         rw (e .0, e .1) (passes 7 (λ f. f .0 (e .2)) (omega arith) (stops 8 (e .2) (le-refl 8) (λ m w. absurd w)))
 
@@ -466,25 +461,9 @@ module _ (column : ℕ) (plan : StagedPlan) (sample : List ℕ) where
       (refused-met column (halfLeft sample) (stagedSay (plan .stages)) ofPlan 0 0 0 itsOf n q
       (sym (as-stages column plan sample) ∙ e)))
 
-decided-not : (a : Bool) → says a ≡ goesOn → ⊥
-decided-not true e = let z : _≡_ {A = ℕ} 0 1 = cc in omega arith
-decided-not false e = let z : _≡_ {A = ℕ} 0 1 = cc in omega arith
-
--- A stage that is not marked and has Re = Ac + 1 decides every total; so where the last stage is so, as in a sound
--- book,
--- no sample runs past its stages.
-pub stage-always : (s : Stage) (total : ℕ) → (s .ac ≡ mark → ⊥) → s .re ≡ s .ac + 1 → stageDecides s total ≡ goesOn → ⊥
-unfolding stageDecides
-stage-always s total unmarked e g =
-    by-le total (s .ac)
-    (λ h. decided-not true (sym (simp (ne-eqb (s .ac) mark unmarked, le-leb total (s .ac) h)) ∙ g))
-    (λ h.
-    decided-not false
-    (sym (simp (ne-eqb (s .ac) mark unmarked, lt-leb total (s .ac) h, le-leb (s .re) total (omega arith))) ∙ g))
-
-pub never-runs-out : (plan : StagedPlan) (k : ℕ) → plan .stages ≡ suc k → (stageAt plan k .ac ≡ mark → ⊥)
-    → stageAt plan k .re ≡ stageAt plan k .ac + 1 → (xs : List ℕ)
+-- Where the last stage decides every total, as in a sound book, no sample runs past its stages.
+pub never-runs-out : (plan : StagedPlan) → 0 < plan .stages
+    → ((total : ℕ) → stageDecides (stageAt plan (plan .stages - 1)) total ≡ goesOn → ⊥) → (xs : List ℕ)
     → ((i : ℕ) → i < plan .stages → stageDecides (stageAt plan i) (sumOf (take (sizeOfFirst (suc i) plan) xs)) ≡ goesOn)
     → ⊥
-never-runs-out plan k last unmarked one xs go =
-    stage-always (stageAt plan k) _ unmarked one (go k (omega (arith, last)))
+never-runs-out plan some decides xs go = decides _ (go (plan .stages - 1) (omega arith))

@@ -1,26 +1,27 @@
 -- What the entries share: the rows 1 to 5 of a lot, a book that is checked first, a plan that only a book supplies, a
 -- sample judged on a plan, a lot closed; for each, what is refused and what is given.
 -- Assumes nothing.
-use Prim.Native.Nat.{ℕ, zero, suc, _+_, _*_, _≤_, _<_}
+use Prim.Native.Nat.{ℕ, zero, suc, _≤_, _<_}
 use mathlib.Core.Path.{_≡_, refl, sym, ap, subst, _∙_}
 use mathlib.Core.Logic.{_↔_}
-use mathlib.Core.Bool.{Bool, true, false, cond, not, false≢true}
-use mathlib.Core.List.{List, [], _∷_, _++_}
+use mathlib.Core.Bool.{Bool, true, false, cond, not}
+use mathlib.Core.List.{List, [], _∷_}
 use native.Mathlib.Nat.{le-refl}
 use native.Mathlib.Omega.{arith}
 use borrow.Author.Tests.{ltb-true, ltb-false, lt-ltb, le-ltb, eqb-true, eq-eqb, ne-eqb, not-true, not-false, lt-leb}
 use lib.Dec.{ltb, eqb}
-use Rattle.rules.specs.Refusals.{Answer, refused, given, Check, _gives_, firstOf, andThen, noPlan, unknownForm}
+use Rattle.rules.specs.Refusals.{Answer, refused, given, _gives_, firstOf, andThen, noPlan, unknownForm}
 use Rattle.rules.specs.Verdict.{Verdict}
-use Rattle.rules.specs.Severity.{Lot, Event, sampled, lot, resubmitted, Record, step, onLot, onResubmitted, inRange}
+use Rattle.rules.specs.Severity.{Lot, sampled, lot, resubmitted, Record, step, onLot, onResubmitted}
+use Rattle.rules.specs.Severity.{inRange}
 use Rattle.rules.specs.Book.{Checked, sound, brokenAt, checkBook, onSound, Found, found, nothing}
 use Rattle.rules.specs.Entries.{Asked, askedChecks, lookedUp, fromEntry, unlessAbove, judgedOn, onRecord, Closed}
 use Rattle.rules.specs.Entries.{Offered, eventFor, closedWith}
 use Rattle.rules.proofs.Answers.{refused-given, given-one, then-given}
 use Rattle.rules.proofs.LookUp.{broken-unsound}
-use Rattle.rules.proofs.Checks.{Plannable, plannable, passed}
-use Rattle.rules.proofs.Refusals.{Row, here, later, NoRow, Then, Reports, check, stops, passes, nothing-wrong}
-use Rattle.rules.proofs.Refusals.{chain, goes-on, None, first-given}
+use Rattle.rules.proofs.Checks.{Plannable, plannable}
+use Rattle.rules.proofs.Refusals.{Row, NoRow, Then, Reports, check, stops, nothing-wrong}
+use Rattle.rules.proofs.Refusals.{chain, goes-on, first-given}
 use Rattle.rules.specs.Verdict.{Judged}
 
 -- 1 to 5, "of every entry that judges or plans a lot", and then its own rows.
@@ -41,9 +42,13 @@ lot-reports q r =
 -- a lot that can be planned passes
 pub lot-passes : {A : Type 0} (q : Asked) (y : Answer A) → Plannable q → firstOf (askedChecks q) y ≡ y
 lot-passes q y h =
-    simp
-    (le-ltb 3 (q .severity) (omega arith), le-ltb (q .size) 2 (h .size), le-ltb 6 (q .level) (omega arith),
-    le-ltb 25 (q .column) (omega arith), ne-eqb (q .severity) 3 (λ e. omega arith))
+    simp (
+      le-ltb 3 (q .severity) (omega arith),
+      le-ltb (q .size) 2 (h .size),
+      le-ltb 6 (q .level) (omega arith),
+      le-ltb 25 (q .column) (omega arith),
+      ne-eqb (q .severity) 3 (λ e. omega arith),
+    )
 
 pub lot-given : {A : Type 0} (q : Asked) (y : Answer A) (x : A)
     → (firstOf (askedChecks q) y ≡ given x) ↔ (Plannable q × (y ≡ given x))
@@ -69,6 +74,15 @@ found-something e = let z : _≡_ {A = ℕ} 0 1 = cc in omega arith
 
 found-one : {d e : List ℕ} → found d ≡ found e → d ≡ e
 found-one e = cc
+
+-- two checks, and then what is given
+pub two-given : {A : Type 0} (a b : Bool) (n m : ℕ) (x y : A)
+    → (firstOf ((a gives n) ∷ (b gives m) ∷ []) (given x) ≡ given y) ↔ ((a ≡ false) × (b ≡ false) × (x ≡ y))
+two-given a b n m x y =
+    let iff = first-given ((a gives n) ∷ (b gives m) ∷ []) (given x) y in (
+      λ g. (iff .0 g .0 .0, iff .0 g .0 .1 .0, given-one (iff .0 g .1)),
+      λ h. iff .1 ((h .0, (h .1, tt)), ap given (h .2)),
+    )
 
 -- A plan that only the book supplies.
 module _ {P : Type 0} (section : ℕ) (needed : List ℕ → ℕ) (planOf : List ℕ → P) (q : Asked) (book : List ℕ) where
@@ -123,13 +137,15 @@ module _ {P : Type 0} (section : ℕ) (needed : List ℕ → ℕ) (planOf : List
           let b = sound-given (checkBook book) _ plan .0 g in
           let l = lot-given q _ plan .0 (b .1) in
           let e = entry-given plan (lookedUp section q book) (l .1) in
-          record
-          { book-sound = b .0
-          ; lot = l .0
-          ; entry = e .0
-          ; under-key = e .1
-          ; within-lot = e .2
-          ; is-plan = e .3 }
+          record {
+            book-sound = b .0;
+            lot = l .0;
+            entry = e .0;
+            under-key = e .1;
+            within-lot = e .2;
+            is-plan = e .3;
+          }
+
       back : Supplies plan → fromBook ≡ given plan
       back s =
           rw (s .book-sound)
@@ -147,9 +163,10 @@ module _ {P Outcome : Type 0} (plan : Answer P) (judge : P → Answer Outcome) w
       → ((p : P) → Reports 1 (wrong p) (judge p))
       → OnBook book (Then unplanned plan wrong) (andThen plan (judgedOn judge))
   judged-on-book book b s =
-      record
-      { broken = λ byte e. rw (b .broken byte e)
-      ; else = λ e. judged-reports (b .else e) (λ p f. s p) }
+      record {
+        broken = λ byte e. rw (b .broken byte e);
+        else = λ e. judged-reports (b .else e) (λ p f. s p);
+      }
 
   pub judged-given : (j : Judged P Outcome)
       → (andThen plan (judgedOn judge) ≡ given j) ↔ ((plan ≡ given (j .plan)) × (judge (j .plan) ≡ given (j .verdict)))
@@ -159,11 +176,23 @@ module _ {P Outcome : Type 0} (plan : Answer P) (judge : P → Answer Outcome) w
       so g =
           let p = then-given plan (judgedOn judge) j g in
           let v = then-given (judge (p .0)) _ j (p .2) in
-          let e : record { plan = p .0; verdict = v .0 } ≡ j = given-one (v .2) in
-          (p .1 ∙ ap (λ (k : Judged P Outcome). given (k .plan)) e,
-          subst (λ (k : Judged P Outcome). judge (k .plan) ≡ given (k .verdict)) e (v .1))
+          let e : record { plan = p .0; verdict = v .0 } ≡ j = given-one (v .2) in (
+            p .1 ∙ ap (λ (k : Judged P Outcome). given (k .plan)) e,
+            subst (λ (k : Judged P Outcome). judge (k .plan) ≡ given (k .verdict)) e (v .1),
+          )
 
-lot-on : (s : ℕ) (l : Lot) (r : Record) → s < 3 → (t : Record) × (onLot s l r ≡ given t)
+-- .. by what its verdict says of the sample
+pub judged-by : {P Outcome : Type 0} (plan : Answer P) (judge : P → Answer Outcome) (Of : P → Outcome → Type 0)
+    → ((p : P) (v : Outcome) → (judge p ≡ given v) ↔ Of p v) → (j : Judged P Outcome)
+    → (andThen plan (judgedOn judge) ≡ given j) ↔ ((plan ≡ given (j .plan)) × Of (j .plan) (j .verdict))
+judged-by plan judge Of iff j = (
+  λ g.
+      let h = judged-given plan judge j .0 g in
+      (h .0, iff (j .plan) (j .verdict) .0 (h .1)),
+  λ h. judged-given plan judge j .1 (h .0, iff (j .plan) (j .verdict) .1 (h .1)),
+)
+
+pub lot-on : (s : ℕ) (l : Lot) (r : Record) → s < 3 → (t : Record) × (onLot s l r ≡ given t)
 unfolding onLot
 lot-on zero l r h = (_, refl)
 lot-on (suc zero) l r h = (_, refl)
@@ -171,7 +200,8 @@ lot-on (suc (suc zero)) l r h = (_, refl)
 lot-on (suc (suc (suc s))) l r h = absurd (omega arith)
 
 -- A lot closed under a severity that is not stopped is always taken into the record.
-pub lot-steps : (r : Record) (o : Offered) (l : Lot) → r .severity < 3 → (t : Record) × (step r (eventFor o l) ≡ given t)
+pub lot-steps : (r : Record) (o : Offered) (l : Lot) → r .severity < 3
+    → (t : Record) × (step r (eventFor o l) ≡ given t)
 unfolding step onResubmitted
 lot-steps r o l h = on (o .again)
   where
@@ -180,7 +210,8 @@ lot-steps r o l h = on (o .again)
     on false = lot-on (r .severity) l r h
 
 -- A lot that is closed: its record, how it is judged, and then the step.
-module _ {P : Type 0} (r : Record) (o : Offered) (judged : Answer (Judged P Verdict)) (counts : Judged P Verdict → Lot) where
+module _ {P : Type 0} (r : Record) (o : Offered) (judged : Answer (Judged P Verdict))
+    (counts : Judged P Verdict → Lot) where
   pub closing-reports : {Wrong : ℕ → Type 0} → Reports 1 Wrong judged
       → ((j : Judged P Verdict) → judged ≡ given j → r .severity < 3)
       → Reports 1 (Row 1 (inRange r ≡ false) Wrong) (onRecord r (andThen judged (closedWith r o counts)))
@@ -206,10 +237,12 @@ module _ {P : Type 0} (r : Record) (o : Offered) (judged : Answer (Judged P Verd
           let j = then-given judged (closedWith r o counts) c (h .1) in
           let t = then-given (step r (eventFor o (counts (j .0)))) _ c (j .2) in
           let e : record { judged = j .0; recordAfter = t .0 } ≡ c = given-one (t .2) in
-          record
-          { in-range = not-false (inRange r) (h .0 .0)
-          ; as-judged = j .1 ∙ ap (λ (k : Closed P). given (k .judged)) e
-          ; stepped = subst (λ (k : Closed P). step r (eventFor o (counts (k .judged))) ≡ given (k .recordAfter)) e (t .1) }
+          record {
+            in-range = not-false (inRange r) (h .0 .0);
+            as-judged = j .1 ∙ ap (λ (k : Closed P). given (k .judged)) e;
+            stepped = subst (λ (k : Closed P). step r (eventFor o (counts (k .judged))) ≡ given (k .recordAfter)) e
+                (t .1);
+          }
 
   pub closing-on-book : {Wrong : ℕ → Type 0} (book : List ℕ) → OnBook book Wrong judged
       → ((j : Judged P Verdict) → judged ≡ given j → r .severity < 3)
@@ -217,3 +250,11 @@ module _ {P : Type 0} (r : Record) (o : Offered) (judged : Answer (Judged P Verd
       (onSound (checkBook book) (onRecord r (andThen judged (closedWith r o counts))))
   closing-on-book book b inspected =
       record { broken = λ byte e. rw e; else = λ e. rw e (closing-reports (b .else e) inspected) }
+
+  pub closing-book-given : (book : List ℕ) → ((j : Judged P Verdict) → judged ≡ given j → checkBook book ≡ sound)
+      → (c : Closed P)
+      → (onSound (checkBook book) (onRecord r (andThen judged (closedWith r o counts))) ≡ given c) ↔ Closes c
+  closing-book-given book judged-sound c = (
+    λ g. closing-given c .0 (sound-given (checkBook book) _ c .0 g .1),
+    λ k. sound-given (checkBook book) _ c .1 (judged-sound (c .judged) (k .as-judged), closing-given c .1 k),
+  )

@@ -2,11 +2,11 @@
 -- some of them comes to.
 -- Assumes nothing.
 use Prim.Native.Nat.{ℕ, zero, suc, _+_, _≤_, _<_, zero-le, suc-le-suc}
-use mathlib.Core.Path.{_≡_, refl, sym, ap, subst, _∙_}
+use mathlib.Core.Path.{_≡_, refl, sym, ap, _∙_}
 use mathlib.Core.Bool.{Bool, true, false, cond, _&&_, _||_, false≢true, or-assoc, or-true}
 use mathlib.Core.List.{List, [], _∷_, _++_}
 use native.Mathlib.Omega.{arith}
-use native.Mathlib.Nat.{le-of-suc-le-suc, zero-add}
+use native.Mathlib.Nat.{le-of-suc-le-suc}
 use borrow.Author.Tests.{ltb-true, lt-ltb, leb-true, le-leb}
 use lib.Dec.{leb, ltb}
 use lib.ListN.{length, getD, take, drop, take-append-drop}
@@ -33,7 +33,7 @@ any-append column [] ys = refl
 any-append column (x ∷ xs) ys =
     rw (any-append column xs ys) (sym (or-assoc (illegal column x) (anyIllegal column xs) (anyIllegal column ys)))
 
-or-neither : (a b : Bool) → (a || b) ≡ false → (a ≡ false) × (b ≡ false)
+pub or-neither : (a b : Bool) → (a || b) ≡ false → (a ≡ false) × (b ≡ false)
 or-neither true b e = absurd (false≢true (sym e))
 or-neither false b e = (refl, e)
 

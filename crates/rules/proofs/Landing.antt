@@ -1,10 +1,10 @@
 -- One arrow of a landing.
 -- Assumes nothing.
 use Prim.Native.Nat.{ℕ, zero, suc, _+_, _-_, _<_}
-use mathlib.Core.Path.{_≡_, refl}
+use mathlib.Core.Path.{_≡_}
 use native.Mathlib.Numerals.{sub-one}
 use native.Mathlib.Omega.{arith}
-use Rattle.rules.specs.Single.{Box, down, up, number, Landing, landed, boxAt, landing}
+use Rattle.rules.specs.Single.{down, up, number, landed, boxAt, landing}
 
 module _ (severity column letter : ℕ) where
   -- a box with a number ends the arrows

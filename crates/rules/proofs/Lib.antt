@@ -23,6 +23,7 @@ pub mod Readings
 pub mod Refusals
 pub mod Resubmitted
 pub mod Runs
+pub mod SMethod
 pub mod SampleSteps
 pub mod SectionKinds
 pub mod Slips

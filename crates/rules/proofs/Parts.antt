@@ -2,16 +2,15 @@
 -- does, all items are legal and nothing follows. A part is an item of a sequential sample, a stage of a staged one.
 -- Assumes nothing.
 use Prim.Native.Nat.{ℕ, zero, suc, _+_, _-_, _≤_, _<_, suc-le-suc}
-use mathlib.Core.Path.{_≡_, refl, sym, ap, subst, _∙_}
-use mathlib.Core.Logic.{_↔_}
-use mathlib.Core.Bool.{Bool, true, false, cond, false≢true}
-use mathlib.Core.List.{List, [], _∷_, map}
+use mathlib.Core.Path.{_≡_, refl, sym, ap, _∙_}
+use mathlib.Core.Bool.{Bool, true, false}
+use mathlib.Core.List.{List, [], _∷_}
 use native.Mathlib.Nat.{add-zero, le-of-suc-le-suc}
 use native.Mathlib.Omega.{arith}
 use lib.ListN.{length, getD, take, drop, length-drop, drop-of-length-le}
-use lib.Seq.{take-all, take-add, drop-drop, getD-drop}
+use lib.Seq.{take-all, take-add, getD-drop}
 use Rattle.rules.specs.Refusals.{Answer, refused, given, wrongLength, illegalItem}
-use Rattle.rules.specs.Numbers.{numbersOf, halfLeft, sumOf}
+use Rattle.rules.specs.Numbers.{sumOf}
 use Rattle.rules.specs.Codes.{illegal, anyIllegal}
 use Rattle.rules.specs.Verdict.{Verdict, Decision, accepts, rejects, goesOn, ended, decided}
 use Rattle.rules.specs.Staged.{Taken, missing, over, taken, takeItems}

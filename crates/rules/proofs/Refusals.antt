@@ -91,6 +91,11 @@ module _ {Wrong : ℕ → Type 0} (number : ℕ) (fact : Type 0) (no : fact → 
       lower m (here f) = absurd (no f)
       lower m (later w) = l .no-lower m w
 
+-- the last row
+pub last-from : {fact : Type 0} (number m : ℕ) → Row number fact NoRow m → number ≤ m
+last-from number m (here f) = le-refl number
+last-from number m (later w) = absurd w
+
 -- A refusal by its own row, before rows with higher numbers.
 pub stops : {A : Type 0} {Wrong : ℕ → Type 0} {fact : Type 0} {low : ℕ} (number : ℕ) → fact → number ≤ low
     → ((m : ℕ) → Wrong m → low ≤ m) → Reports {A = A} number (Row number fact Wrong) (refused number 0)
@@ -172,15 +177,17 @@ seen-from k h r = record { from = λ m w. le-trans h (r .from m w); if-given = r
 pub goes-on : {A B : Type 0} {low : ℕ} {Wrong : ℕ → Type 0} {next : A → Answer B} (a : Answer A) → Reports low Wrong a
     → ((x : A) → a ≡ given x → (y : B) × (next x ≡ given y)) → Reports low Wrong (andThen a next)
 goes-on (refused n p) r s =
-    record
-    { from = r .from
-    ; if-given = λ x e. absurd (refused-given e)
-    ; if-refused = λ m k e. r .if-refused m k (rw (← refused-number e, ← refused-place e)) }
+    record {
+      from = r .from;
+      if-given = λ x e. absurd (refused-given e);
+      if-refused = λ m k e. r .if-refused m k (rw (← refused-number e, ← refused-place e));
+    }
 goes-on (given x) r s =
-    record
-    { from = r .from
-    ; if-given = λ y e. r .if-given x refl
-    ; if-refused = λ m k e. absurd (refused-given (sym e ∙ s x refl .1)) }
+    record {
+      from = r .from;
+      if-given = λ y e. r .if-given x refl;
+      if-refused = λ m k e. absurd (refused-given (sym e ∙ s x refl .1));
+    }
 
 -- No check finds something wrong.
 abbrev pub None : List Check → Type 0

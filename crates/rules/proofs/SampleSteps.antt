@@ -1,6 +1,6 @@
 -- One item of a sequential walk, one item and one stage of a staged walk, over the numbers of a sample from a place on.
 -- Assumes nothing.
-use Prim.Native.Nat.{ℕ, zero, suc, _+_, _-_, _*_, _%_, _≤_, _<_}
+use Prim.Native.Nat.{ℕ, suc, _+_, _-_, _*_, _%_, _≤_, _<_}
 use mathlib.Core.Path.{_≡_, refl}
 use mathlib.Core.Bool.{Bool, true, false, cond}
 use mathlib.Core.List.{List, [], _∷_}
@@ -8,13 +8,13 @@ use native.Mathlib.Numerals.{add-one, sub-one}
 use native.Mathlib.Omega.{arith}
 use borrow.Author.Tests.{lt-ltb, le-ltb, eq-eqb, ne-eqb}
 use lib.Dec.{eqb}
-use lib.ListN.{length, getD, drop, drop-of-length-le}
-use Rattle.rules.specs.Refusals.{Answer, refused, given, wrongLength, illegalItem}
+use lib.ListN.{length, getD, drop}
+use Rattle.rules.specs.Refusals.{refused, given, wrongLength, illegalItem}
 use Rattle.rules.specs.Numbers.{numbersOf, halfLeft}
 use Rattle.rules.specs.Codes.{illegal}
-use Rattle.rules.specs.Verdict.{Verdict, Decision, accepts, rejects, goesOn, ended, decided}
+use Rattle.rules.specs.Verdict.{Verdict, ended, decided}
 use Rattle.rules.specs.Sequential.{SequentialPlan, itemDecides, sequentialFrom, sequentialVerdict}
-use Rattle.rules.specs.Staged.{Stage, StagedPlan, stagesFrom, stageDecides, Taken, missing, over, taken}
+use Rattle.rules.specs.Staged.{Stage, StagedPlan, stagesFrom, stageDecides, missing, over, taken}
 use Rattle.rules.specs.Staged.{takeItems, Standing, stagedVerdict, further, stagedFrom}
 use Rattle.rules.proofs.Numbers.{numbers-next, numbers-end}
 use Rattle.rules.proofs.Bounded.{by-le}

@@ -2,12 +2,12 @@
 -- the box one column tighter.
 -- Assumes nothing.
 use Prim.Native.Nat.{ℕ, zero, suc, _+_, _-_, _*_, _≤_, _<_}
-use mathlib.Core.Path.{_≡_, refl, ap, subst}
-use mathlib.Core.Bool.{Bool, true, false, _&&_}
+use mathlib.Core.Path.{_≡_, ap, subst}
+use mathlib.Core.Bool.{Bool, true, false}
 use native.Mathlib.Omega.{arith}
 use lib.Dec.{T, leb, leb→le, le→leb, eqb, eqb→eq, ltb, ltb→lt}
 use Rattle.rules.specs.Codes.{normal, letterA, letterOf, tableOne, rowOf}
-use Rattle.rules.specs.Single.{Box, down, up, number, Landing, boxAt, landing, landingOf, acOf, tighterAc}
+use Rattle.rules.specs.Single.{Box, down, up, number, boxAt, landing, landingOf, tighterAc}
 use Rattle.rules.proofs.Bounded.{implies, implies-at, all, all-at₂, all-at₃, each-at}
 
 -- Table 1 has no letter past R.

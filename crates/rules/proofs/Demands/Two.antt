@@ -1,42 +1,60 @@
--- Demand 2: for each entry, exactly when it is refused and exactly when it is given. An entry that takes a book reports 12
--- with its byte first, and of a sound book, as every other entry, the lowest number whose row holds (`refused-exactly`),
+-- Demand 2: for each entry, exactly when it is refused and exactly when it is given. An entry that takes a book
+-- reports 12
+-- with its byte first, and of a sound book, as every other entry, the lowest number whose row holds
+-- (`refused-exactly`),
 -- and is given exactly where no row holds (`given-exactly`): nothing else is refused.
 -- Assumes nothing.
-use Prim.Native.Nat.{ℕ, zero, suc, _+_, _*_, _%_, _/_, _≤_, _<_}
+use Prim.Native.Nat.{ℕ, zero, suc, _*_, _%_, _/_, _≤_, _<_}
 use mathlib.Core.Path.{_≡_, refl, sym, ap, subst, _∙_}
 use mathlib.Core.Logic.{_↔_, _⊎_, inl, inr}
-use mathlib.Core.Bool.{Bool, true, false, cond, _&&_, _||_, not, false≢true}
-use mathlib.Core.List.{List, [], _∷_, map}
-use native.Mathlib.Nat.{le-refl}
+use mathlib.Core.Bool.{Bool, true, false, cond, _&&_, _||_, not, false≢true, or-true}
+use mathlib.Core.List.{List, [], _∷_}
+use native.Mathlib.Nat.{le-refl, le-trans}
 use native.Mathlib.Omega.{arith}
-use borrow.Author.Tests.{ltb-true, ltb-false, lt-ltb, le-ltb, leb-true, le-leb, lt-leb, eqb-true, eqb-false, eq-eqb, ne-eqb}
+use borrow.Author.Tests.{ltb-true, ltb-false, lt-ltb, le-ltb, leb-true, le-leb, lt-leb, eqb-true, eqb-false, eq-eqb}
+use borrow.Author.Tests.{ne-eqb}
 use borrow.Author.Tests.{not-true, not-false}
 use lib.Dec.{leb, ltb, eqb}
-use lib.IntN.{ℤ, pos}
+use lib.IntN.{ℤ}
 use lib.ListN.{length, getD}
-use Rattle.rules.specs.Refusals.{Answer, refused, given, Check, _gives_, firstOf, andThen, wrongLength, illegalItem}
-use Rattle.rules.specs.Refusals.{outOfRange, bufferShort, noPlan}
+use Rattle.rules.specs.Refusals.{Answer, refused, given, _gives_, firstOf, andThen}
+use Rattle.rules.specs.Refusals.{illegalItem}
+use Rattle.rules.specs.Refusals.{bufferShort, noPlan, unknownForm}
 use Rattle.rules.specs.Numbers.{numbersOf, halfLeft, sumOf}
 use Rattle.rules.specs.Codes.{reduced, countsItems, anyIllegal}
 use Rattle.rules.specs.Verdict.{Verdict, Judged}
 use Rattle.rules.specs.Single.{Plan, tablePlan, singleVerdict, judgeItems}
 use Rattle.rules.specs.Staged.{StagedPlan, stagesOf, totalSize, judgeStages}
 use Rattle.rules.specs.Sequential.{SequentialPlan, judgeSequence}
-use Rattle.rules.specs.Book.{sound, checkBook, Found, found, nothing, onSound, stagedOf, sequentialOf, variablesOf}
-use Rattle.rules.specs.Entries.{Asked, askedChecks, lookedUp, reducedSection, stagedSection, sequentialSection}
+use Rattle.rules.specs.Book.{sound, checkBook, Found, found, nothing, stagedOf, sequentialOf}
+use Rattle.rules.specs.Book.{variablesOf}
+use Rattle.rules.specs.Entries.{Asked, lookedUp, reducedSection, stagedSection, sequentialSection}
 use Rattle.rules.specs.Entries.{variablesSection, fromEntry, reducedPlan, singlePlan, plainPlan, stagedPlan}
 use Rattle.rules.specs.Entries.{sequentialPlan, variablesPlan, judgeSingle, judgeStaged, judgeSequential}
-use Rattle.rules.specs.Variables.{VariablesPlan}
-use Rattle.rules.proofs.Answers.{refused-given, given-one}
+use Rattle.rules.specs.Entries.{judgeVariables, totalOn, judgeTotal, next, Closed, Offered, askedOn}
+use Rattle.rules.specs.Entries.{singleCounts, stagedCounts, closeSingle, closeStaged, closeTotal}
+use Rattle.rules.specs.Severity.{Lot, Event, lot, resubmitted, corrective, unknown, steadyIs}
+use Rattle.rules.specs.Severity.{permissionIs, Record, fresh, step}
+use Rattle.rules.specs.Severity.{inRange, onLot, onResubmitted, onCorrective}
+use Rattle.rules.specs.Variables.{VariablesPlan, Gauged, inGauge, allInGauge, readingsOf, acceptsReadings}
+use Rattle.rules.specs.Variables.{judgeReadings, sumZ, squaresZ}
+use Rattle.rules.specs.History.{Work, eventIn, placed, afterHistory, listed}
+use Rattle.rules.proofs.Histories.{From, from-suc, from-first, from-refused}
+use Rattle.rules.specs.Screen.{Shown, screen, shownOf}
+use Rattle.rules.proofs.Bounded.{by-le}
+use Rattle.rules.proofs.HeldPlans.{and-left, and-right}
+use Rattle.rules.proofs.Answers.{refused-given, given-one, then-given}
 use Rattle.rules.proofs.Checks.{Plannable}
-use Rattle.rules.proofs.Items.{IllegalAt, any-means, any-when}
+use Rattle.rules.proofs.Items.{IllegalAt, any-means, any-when, or-neither}
 use Rattle.rules.proofs.Refusals.{Row, here, later, NoRow, Then, Reports, check, stops, passes, nothing-wrong}
-use Rattle.rules.proofs.Refusals.{chain, goes-on, seen-from, first-given}
+use Rattle.rules.proofs.Refusals.{chain, seen-from, first-given, last-from, refused-number, refused-place}
 use Rattle.rules.proofs.Deciding.{SampleRows, EndsAtItem, MeetsItem, sequence-decided, sequence-reports}
 use Rattle.rules.proofs.Deciding.{EndsAtStage, MeetsInStage, stages-decided, stages-report}
 use Rattle.rules.proofs.EntryLaws.{LotRows, lot-reports, lot-passes, lot-given, OnBook, on-book, sound-given}
 use Rattle.rules.proofs.EntryLaws.{fromBook, NoPlan, book-plan-reports, Supplies, book-plan-given}
-use Rattle.rules.proofs.EntryLaws.{judged-on-book, judged-given}
+use Rattle.rules.proofs.EntryLaws.{two-given, judged-on-book, judged-by, Closes, closing-reports, closing-given}
+use Rattle.rules.proofs.EntryLaws.{closing-on-book, closing-book-given, lot-on}
+use Rattle.rules.proofs.SMethod.{OutAt, out-means, out-when}
 
 -- 1. The single plan. 6 under reduced inspection, where the book has no entry under the key.
 module _ (q : Asked) (book : List ℕ) where
@@ -83,16 +101,20 @@ module _ (q : Asked) (book : List ℕ) where
     where
       look : Found
       look = lookedUp reducedSection q book
+
       so : singlePlan q book ≡ given plan → SinglePlanned plan
       so g =
           let b = sound-given (checkBook book) _ plan .0 g in
           let l = lot-given q _ plan .0 (b .1) in
-          record
-          { book-sound = b .0
-          ; lot = l .0
-          ; from-book = λ s. entry-is plan look (sym (ap (λ (t : Bool). plan-of t look) (eq-eqb (q .severity) 2 s)) ∙ l .1)
-          ; from-tables =
-              λ s. given-one (sym (ap (λ (t : Bool). plan-of t look) (ne-eqb (q .severity) 2 s)) ∙ l .1) }
+          record {
+            book-sound = b .0;
+            lot = l .0;
+            from-book = λ s. entry-is plan look
+                (sym (ap (λ (t : Bool). plan-of t look) (eq-eqb (q .severity) 2 s)) ∙ l .1);
+            from-tables =
+                λ s. given-one (sym (ap (λ (t : Bool). plan-of t look) (ne-eqb (q .severity) 2 s)) ∙ l .1);
+          }
+
       back : SinglePlanned plan → (t : Bool) → eqb (q .severity) 2 ≡ t → plan-of t look ≡ given plan
       back s true e = let f = s .from-book (eqb-true (q .severity) 2 e) in rw (f .1) (ap given (f .2))
       back s false e = ap given (s .from-tables (eqb-false (q .severity) 2 e))
@@ -164,21 +186,543 @@ module _ (column : ℕ) (sample : List ℕ) (plan : Plan) where
 
   pub items-given : (v : Verdict) → (judgeItems column plan sample ≡ given v) ↔ ItemsJudged v
   unfolding judgeItems
-  items-given v =
-      (λ g.
-      let h = first-given checks outcome v .0 g in
-      record
-      { whole = eqb-true (length sample) (2 * plan .n) (not-false (eqb (length sample) (2 * plan .n)) (h .0 .0))
-      ; legal = h .0 .1 .0
-      ; verdict = given-one (h .1) },
-      λ j.
-      first-given checks outcome v .1
-      ((ap not (eq-eqb (length sample) (2 * plan .n) (j .whole)), (j .legal, tt)), ap given (j .verdict)))
+  items-given v = (
+    λ g.
+        let h = two .0 g in
+        record {
+          whole = eqb-true (length sample) (2 * plan .n) (not-false (eqb (length sample) (2 * plan .n)) (h .0));
+          legal = h .1;
+          verdict = h .2;
+        },
+    λ j. two .1 (ap not (eq-eqb (length sample) (2 * plan .n) (j .whole)), j .legal, j .verdict),
+  )
     where
-      checks : List Check
-      checks =
-          (not (eqb (length sample) (2 * plan .n)) gives wrongLength)
-          ∷ (anyIllegal column (numbersOf sample) gives illegalItem)
-          ∷ []
-      outcome : Answer Verdict
-      outcome = given (singleVerdict plan (sumOf (numbersOf sample)))
+      two : (judgeItems column plan sample ≡ given v)
+          ↔ ((not (eqb (length sample) (2 * plan .n)) ≡ false)
+          × (anyIllegal column (numbersOf sample) ≡ false)
+          × (singleVerdict plan (sumOf (numbersOf sample)) ≡ v))
+      two = two-given _ _ 7 8 _ v
+
+-- 4. Readings. 7 where there are not exactly the plan's n, 9 for a reading or the limit out of range.
+module _ (upper : Bool) (limit : ℤ) (bytes : List ℕ) (plan : VariablesPlan) where
+  pub data OutOfGauge : Type 0 where
+    reading : OutAt (readingsOf bytes) → OutOfGauge
+    the-limit : inGauge limit ≡ false → OutOfGauge
+
+  abbrev pub ReadingRows : ℕ → Type 0
+  ReadingRows = Row 7 (length bytes ≡ 2 * plan .n → ⊥) (Row 9 OutOfGauge NoRow)
+
+  out-so : (a b : Bool) → allInGauge (readingsOf bytes) ≡ a → inGauge limit ≡ b → (not a || not b) ≡ true → OutOfGauge
+  out-so false b e f t = reading (out-means (readingsOf bytes) e)
+  out-so true false e f t = the-limit f
+  out-so true true e f t = absurd (false≢true t)
+
+  out-then : OutOfGauge → (not (allInGauge (readingsOf bytes)) || not (inGauge limit)) ≡ true
+  out-then (reading o) = rw (out-when (readingsOf bytes) o)
+  out-then (the-limit e) = rw e (or-true (not (allInGauge (readingsOf bytes))))
+
+  pub readings-refused : Reports 7 ReadingRows (judgeReadings upper plan limit bytes)
+  unfolding judgeReadings
+  readings-refused =
+      check 7 (not (eqb (length bytes) (2 * plan .n)))
+      (λ t. eqb-false (length bytes) (2 * plan .n) (not-true (eqb (length bytes) (2 * plan .n)) t))
+      (λ w. ap not (ne-eqb (length bytes) (2 * plan .n) w)) (omega arith)
+      (check 9 (not (allInGauge (readingsOf bytes)) || not (inGauge limit))
+      (out-so (allInGauge (readingsOf bytes)) (inGauge limit) refl refl) out-then (le-refl 9) nothing-wrong)
+
+  pub record ReadingsJudged (v : Gauged) : Type 0 where
+    pub whole : length bytes ≡ 2 * plan .n
+    pub readings-in : allInGauge (readingsOf bytes) ≡ true
+    pub limit-in : inGauge limit ≡ true
+    pub verdict : record { accepted = acceptsReadings upper plan limit (readingsOf bytes); used = plan .n } ≡ v
+
+  in-both : (a b : Bool) → (not a || not b) ≡ false → (a ≡ true) × (b ≡ true)
+  in-both true true e = (refl, refl)
+  in-both true false e = absurd (false≢true (sym e))
+  in-both false b e = absurd (false≢true (sym e))
+
+  pub readings-given : (v : Gauged) → (judgeReadings upper plan limit bytes ≡ given v) ↔ ReadingsJudged v
+  unfolding judgeReadings
+  readings-given v = (
+    λ g.
+        let h = two .0 g in
+        let i = in-both (allInGauge (readingsOf bytes)) (inGauge limit) (h .1) in
+        record {
+          whole = eqb-true (length bytes) (2 * plan .n) (not-false (eqb (length bytes) (2 * plan .n)) (h .0));
+          readings-in = i .0;
+          limit-in = i .1;
+          verdict = h .2;
+        },
+    λ j.
+        two .1 (ap not (eq-eqb (length bytes) (2 * plan .n) (j .whole)), rw (j .readings-in, j .limit-in), j .verdict),
+  )
+    where
+      two : (judgeReadings upper plan limit bytes ≡ given v)
+          ↔ ((not (eqb (length bytes) (2 * plan .n)) ≡ false)
+          × ((not (allInGauge (readingsOf bytes)) || not (inGauge limit)) ≡ false)
+          × (record { accepted = acceptsReadings upper plan limit (readingsOf bytes); used = plan .n } ≡ v))
+      two = two-given _ _ 7 9 _ v
+
+-- 5. A lot judged: its plan, and then its sample. Where there is no plan, the plan's refusal.
+module _ (q : Asked) (book sample : List ℕ) where
+  pub judge-single-refused :
+      OnBook book (Then (SinglePlanRows q book) (singlePlan q book) (ItemRows (q .column) sample))
+      (judgeSingle q book sample)
+  unfolding judgeSingle
+  judge-single-refused =
+      judged-on-book (singlePlan q book) _ book (single-plan-refused q book)
+      (λ plan. seen-from 1 (omega arith) (items-refused (q .column) sample plan))
+
+  pub judge-single-given : (j : Judged Plan Verdict)
+      → (judgeSingle q book sample ≡ given j)
+      ↔ ((singlePlan q book ≡ given (j .plan)) × ItemsJudged (q .column) sample (j .plan) (j .verdict))
+  unfolding judgeSingle
+  judge-single-given j =
+      judged-by (singlePlan q book) (λ plan. judgeItems (q .column) plan sample) (ItemsJudged (q .column) sample)
+      (items-given (q .column) sample) j
+
+  pub judge-staged-refused :
+      OnBook book
+      (Then (StagedPlanRows q book) (stagedPlan q book)
+      (λ plan. SampleRows (EndsAtStage (q .column) plan sample) (MeetsInStage (q .column) plan sample)))
+      (judgeStaged q book sample)
+  unfolding judgeStaged
+  judge-staged-refused =
+      judged-on-book (stagedPlan q book) _ book (staged-plan-refused q book)
+      (λ plan. seen-from 1 (omega arith) (stages-report (q .column) plan sample))
+
+  pub judge-staged-given : (j : Judged StagedPlan Verdict)
+      → (judgeStaged q book sample ≡ given j)
+      ↔ ((stagedPlan q book ≡ given (j .plan)) × EndsAtStage (q .column) (j .plan) sample (j .verdict))
+  unfolding judgeStaged
+  judge-staged-given j =
+      judged-by (stagedPlan q book) (λ plan. judgeStages (q .column) plan sample)
+      (λ plan v. EndsAtStage (q .column) plan sample v) (λ plan v. stages-decided (q .column) plan sample v) j
+
+  pub judge-sequential-refused :
+      OnBook book
+      (Then (SequentialPlanRows q book) (sequentialPlan q book)
+      (λ plan. SampleRows (EndsAtItem plan sample) (MeetsItem plan sample)))
+      (judgeSequential q book sample)
+  unfolding judgeSequential
+  judge-sequential-refused =
+      judged-on-book (sequentialPlan q book) _ book (sequential-plan-refused q book)
+      (λ plan. seen-from 1 (omega arith) (sequence-reports plan sample))
+
+  pub judge-sequential-given : (j : Judged SequentialPlan Verdict)
+      → (judgeSequential q book sample ≡ given j)
+      ↔ ((sequentialPlan q book ≡ given (j .plan)) × EndsAtItem (j .plan) sample (j .verdict))
+  unfolding judgeSequential
+  judge-sequential-given j =
+      judged-by (sequentialPlan q book) (λ plan. judgeSequence plan sample) (λ plan v. EndsAtItem plan sample v)
+      (λ plan v. sequence-decided plan sample v) j
+
+  pub judge-variables-refused : (upper : Bool) (limit : ℤ)
+      → OnBook book (Then (VariablesPlanRows q book) (variablesPlan q book) (ReadingRows upper limit sample))
+      (judgeVariables upper q book limit sample)
+  unfolding judgeVariables
+  judge-variables-refused upper limit =
+      judged-on-book (variablesPlan q book) _ book (variables-plan-refused q book)
+      (λ plan. seen-from 1 (omega arith) (readings-refused upper limit sample plan))
+
+  pub judge-variables-given : (upper : Bool) (limit : ℤ) (j : Judged VariablesPlan Gauged)
+      → (judgeVariables upper q book limit sample ≡ given j)
+      ↔ ((variablesPlan q book ≡ given (j .plan)) × ReadingsJudged upper limit sample (j .plan) (j .verdict))
+  unfolding judgeVariables
+  judge-variables-given upper limit j =
+      judged-by (variablesPlan q book) (λ plan. judgeReadings upper plan limit sample)
+      (ReadingsJudged upper limit sample) (readings-given upper limit sample) j
+
+-- 6. A lot by its total, on a bench without a book. 6 under reduced inspection, 8 for a total over n where items count.
+module _ (q : Asked) where
+  abbrev pub PlainPlanRows : ℕ → Type 0
+  PlainPlanRows = LotRows q (Row 6 (q .severity ≡ 2) NoRow)
+
+  pub plain-plan-refused : Reports 1 PlainPlanRows (plainPlan q)
+  unfolding plainPlan
+  plain-plan-refused =
+      lot-reports q
+      (check 6 (eqb (q .severity) 2) (eqb-true (q .severity) 2) (eq-eqb (q .severity) 2) (le-refl 6) nothing-wrong)
+
+  pub record PlainPlanned (plan : Plan) : Type 0 where
+    pub lot : Plannable q
+    pub not-reduced : q .severity ≡ 2 → ⊥
+    pub is-plan : tablePlan (q .severity) (q .size) (q .level) (q .column) ≡ plan
+
+  pub plain-plan-given : (plan : Plan) → (plainPlan q ≡ given plan) ↔ PlainPlanned plan
+  unfolding plainPlan
+  plain-plan-given plan = (
+    λ g.
+        let l = lot-given q _ plan .0 g in
+        let h = first-given ((eqb (q .severity) reduced gives noPlan) ∷ []) _ plan .0 (l .1) in
+        record { lot = l .0; not-reduced = eqb-false (q .severity) 2 (h .0 .0); is-plan = given-one (h .1) },
+    λ p. lot-passes q _ (p .lot) ∙ rw (ne-eqb (q .severity) 2 (p .not-reduced)) (ap given (p .is-plan)),
+  )
+
+  module _ (total : ℕ) where
+    abbrev pub TotalRows : ℕ → Type 0
+    TotalRows =
+        Then PlainPlanRows (plainPlan q) (λ plan. Row 8 ((q .column ≤ 15) × (plan .n < total)) NoRow)
+
+    over-so : (plan : Plan) → (countsItems (q .column) && ltb (plan .n) total) ≡ true
+        → (q .column ≤ 15) × (plan .n < total)
+    over-so plan t = (
+      leb-true (q .column) 15 (and-left (leb (q .column) 15) (ltb (plan .n) total) t),
+      ltb-true (plan .n) total (and-right (leb (q .column) 15) (ltb (plan .n) total) t),
+    )
+
+    over-then : (plan : Plan) → (q .column ≤ 15) × (plan .n < total)
+        → (countsItems (q .column) && ltb (plan .n) total) ≡ true
+    over-then plan h = rw (le-leb (q .column) 15 (h .0), lt-ltb (plan .n) total (h .1))
+
+    pub judge-total-refused : Reports 1 TotalRows (judgeTotal q total)
+    unfolding judgeTotal
+    judge-total-refused =
+        chain (plainPlan q) plain-plan-refused
+        (λ plan e.
+        seen-from 1 (omega arith)
+        (check 8 (countsItems (q .column) && ltb (plan .n) total) (over-so plan) (over-then plan)
+        (le-refl 8) nothing-wrong))
+
+    pub record TotalJudged (j : Judged Plan Verdict) : Type 0 where
+      pub planned : PlainPlanned (j .plan)
+      pub within-n : q .column ≤ 15 → total ≤ j .plan .n
+      pub verdict : singleVerdict (j .plan) total ≡ j .verdict
+
+    not-over : (plan : Plan) (t : Bool) → (countsItems (q .column) && ltb (plan .n) total) ≡ t → t ≡ false
+        → q .column ≤ 15 → total ≤ plan .n
+    not-over plan t e f c =
+        by-le total (plan .n) (λ h. h) (λ h. absurd (false≢true (sym f ∙ sym e ∙ over-then plan (c, h))))
+
+    right-total : (plan : Plan) → (q .column ≤ 15 → total ≤ plan .n)
+        → (countsItems (q .column) && ltb (plan .n) total) ≡ false
+    right-total plan h =
+        by-le (q .column) 15 (λ c. rw (le-leb (q .column) 15 c, le-ltb (plan .n) total (h c)))
+        (λ c. rw (lt-leb (q .column) 15 c))
+
+    pub judge-total-given : (j : Judged Plan Verdict) → (judgeTotal q total ≡ given j) ↔ TotalJudged j
+    unfolding judgeTotal
+    judge-total-given j = (so, back)
+      where
+        so : judgeTotal q total ≡ given j → TotalJudged j
+        so g =
+            let p = then-given (plainPlan q) (totalOn (q .column) total) j g in
+            let h = first-given ((countsItems (q .column) && ltb (p .0 .n) total gives illegalItem) ∷ []) _ j .0
+            (p .2) in
+            let e : record { plan = p .0; verdict = singleVerdict (p .0) total } ≡ j = given-one (h .1) in
+            let same : p .0 ≡ j .plan = ap (λ (k : Judged Plan Verdict). k .plan) e in
+            record {
+              planned = plain-plan-given (j .plan) .0 (p .1 ∙ ap given same);
+              within-n =
+                  subst (λ (plan : Plan). q .column ≤ 15 → total ≤ plan .n) same
+                  (not-over (p .0) (countsItems (q .column) && ltb (p .0 .n) total) refl (h .0 .0));
+              verdict =
+                  ap (λ (plan : Plan). singleVerdict plan total) (sym same)
+                  ∙ ap (λ (k : Judged Plan Verdict). k .verdict) e;
+            }
+
+        back : TotalJudged j → judgeTotal q total ≡ given j
+        back t =
+            rw (plain-plan-given (j .plan) .1 (t .planned), right-total (j .plan) (t .within-n))
+            (ap (λ (v : Verdict). given (record { plan = j .plan; verdict = v })) (t .verdict))
+
+-- 7. A lot closed: 1 for a record out of range, and else as the lot is judged at the present severity. What is judged
+-- is
+-- taken into the record: the severity is not stopped, so that the step is always given (`lot-steps`).
+module _ (r : Record) (o : Offered) (book sample : List ℕ) where
+  single-planned : (j : Judged Plan Verdict) → judgeSingle (askedOn r o) book sample ≡ given j
+      → SinglePlanned (askedOn r o) book (j .plan)
+  single-planned j e =
+      single-plan-given (askedOn r o) book (j .plan) .0 (judge-single-given (askedOn r o) book sample j .0 e .0)
+
+  pub close-single-refused :
+      OnBook book
+      (Row 1 (inRange r ≡ false)
+      (Then (SinglePlanRows (askedOn r o) book) (singlePlan (askedOn r o) book) (ItemRows (o .column) sample)))
+      (closeSingle r o book sample)
+  unfolding closeSingle
+  close-single-refused =
+      closing-on-book r o (judgeSingle (askedOn r o) book sample) (singleCounts r o) book
+      (judge-single-refused (askedOn r o) book sample) (λ j e. single-planned j e .lot .severity)
+
+  pub close-single-given : (c : Closed Plan)
+      → (closeSingle r o book sample ≡ given c)
+      ↔ Closes r o (judgeSingle (askedOn r o) book sample) (singleCounts r o) c
+  unfolding closeSingle
+  close-single-given =
+      closing-book-given r o (judgeSingle (askedOn r o) book sample) (singleCounts r o) book
+      (λ j e. single-planned j e .book-sound)
+
+  staged-planned : (j : Judged StagedPlan Verdict) → judgeStaged (askedOn r o) book sample ≡ given j
+      → Supplies stagedSection (stagedNeeds (askedOn r o) book) stagedOf (askedOn r o) book (j .plan)
+  staged-planned j e =
+      staged-plan-given (askedOn r o) book (j .plan) .0 (judge-staged-given (askedOn r o) book sample j .0 e .0)
+
+  pub close-staged-refused :
+      OnBook book
+      (Row 1 (inRange r ≡ false)
+      (Then (StagedPlanRows (askedOn r o) book) (stagedPlan (askedOn r o) book)
+      (λ plan. SampleRows (EndsAtStage (o .column) plan sample) (MeetsInStage (o .column) plan sample))))
+      (closeStaged r o book sample)
+  unfolding closeStaged
+  close-staged-refused =
+      closing-on-book r o (judgeStaged (askedOn r o) book sample) (stagedCounts r o) book
+      (judge-staged-refused (askedOn r o) book sample) (λ j e. staged-planned j e .lot .severity)
+
+  pub close-staged-given : (c : Closed StagedPlan)
+      → (closeStaged r o book sample ≡ given c)
+      ↔ Closes r o (judgeStaged (askedOn r o) book sample) (stagedCounts r o) c
+  unfolding closeStaged
+  close-staged-given =
+      closing-book-given r o (judgeStaged (askedOn r o) book sample) (stagedCounts r o) book
+      (λ j e. staged-planned j e .book-sound)
+
+module _ (r : Record) (o : Offered) (total : ℕ) where
+  pub close-total-refused : Reports 1 (Row 1 (inRange r ≡ false) (TotalRows (askedOn r o) total)) (closeTotal r o total)
+  unfolding closeTotal
+  close-total-refused =
+      closing-reports r o (judgeTotal (askedOn r o) total) (singleCounts r o) (judge-total-refused (askedOn r o) total)
+      (λ j e. judge-total-given (askedOn r o) total j .0 e .planned .lot .severity)
+
+  pub close-total-given : (c : Closed Plan)
+      → (closeTotal r o total ≡ given c) ↔ Closes r o (judgeTotal (askedOn r o) total) (singleCounts r o) c
+  unfolding closeTotal
+  close-total-given = closing-given r o (judgeTotal (askedOn r o) total) (singleCounts r o)
+
+never : {P : Type 0} → _≡_ {A = ℕ} 0 1 → P
+never e = absurd (omega arith)
+
+-- 8. A history byte: 1 for a record out of range or a byte of no known form, 5 for any lot while stopped, 10 for a
+-- corrective order when not stopped.
+abbrev pub IsLot : Event → Type 0
+IsLot (lot from l) = Unit
+IsLot resubmitted = Unit
+IsLot (steadyIs b) = ⊥
+IsLot (permissionIs b) = ⊥
+IsLot corrective = ⊥
+IsLot unknown = ⊥
+
+module _ (r : Record) where
+  abbrev pub EventRows : Event → ℕ → Type 0
+  EventRows e =
+      Row 1 (e ≡ unknown)
+      (Row 5 (IsLot e × (3 ≤ r .severity)) (Row 10 ((e ≡ corrective) × (r .severity < 3)) NoRow))
+
+  -- nothing is wrong with an event that is none of these
+  taken : {a : Record} (e : Event) → (e ≡ unknown → ⊥) → (IsLot e → r .severity < 3)
+      → (e ≡ corrective → 3 ≤ r .severity)
+      → Reports 1 (EventRows e) (given a)
+  taken e known inspected stopped =
+      passes 1 known (omega arith)
+      (passes 5 (λ w. let h = inspected (w .0) in omega arith) (omega arith)
+      (passes 10 (λ w. let h = stopped (w .0) in omega arith) (le-refl 10) nothing-wrong))
+
+  events-from : (e : Event) (m : ℕ)
+      → Row 5 (IsLot e × (3 ≤ r .severity)) (Row 10 ((e ≡ corrective) × (r .severity < 3)) NoRow) m → 5 ≤ m
+  events-from e m (here f) = le-refl 5
+  events-from e m (later w) = le-trans (omega arith) (last-from 10 m w)
+
+  -- a lot while stopped
+  stopped-lot : (e : Event) → (e ≡ unknown → ⊥) → IsLot e → 3 ≤ r .severity
+      → Reports {A = Record} 1 (EventRows e) (refused 5 0)
+  stopped-lot e known is h = passes 1 known (omega arith) (stops 5 (is, h) (omega arith) (last-from 10))
+
+  lot-stopped : (s : ℕ) (l : Lot) → 3 ≤ s → onLot s l r ≡ refused 5 0
+  unfolding onLot
+  lot-stopped zero l h = absurd (omega arith)
+  lot-stopped (suc zero) l h = absurd (omega arith)
+  lot-stopped (suc (suc zero)) l h = absurd (omega arith)
+  lot-stopped (suc (suc (suc s))) l h = refl
+
+  pub step-refused : (e : Event) → Reports 1 (EventRows e) (step r e)
+  unfolding step onResubmitted onCorrective
+  step-refused (lot from l) =
+      by-le 3 (r .severity)
+      (λ h. rw (lot-stopped (r .severity) l h) (stopped-lot (lot from l) (λ e. never (cc)) tt h))
+      (λ h. rw (lot-on (r .severity) l r h .1) (taken (lot from l) (λ e. never (cc)) (λ i. h) (λ e. never (cc))))
+  step-refused resubmitted =
+      by-le 3 (r .severity)
+      (λ h. rw (le-leb 3 (r .severity) h) (stopped-lot resubmitted (λ e. never (cc)) tt h))
+      (λ h. rw (lt-leb 3 (r .severity) h) (taken resubmitted (λ e. never (cc)) (λ i. h) (λ e. never (cc))))
+  step-refused (steadyIs b) = taken (steadyIs b) (λ e. never (cc)) (λ i. absurd i) (λ e. never (cc))
+  step-refused (permissionIs b) = taken (permissionIs b) (λ e. never (cc)) (λ i. absurd i) (λ e. never (cc))
+  step-refused corrective =
+      by-le 3 (r .severity)
+      (λ h. rw (le-leb 3 (r .severity) h) (taken corrective (λ e. never (cc)) (λ i. absurd i) (λ e. h)))
+      (λ h.
+      rw (lt-leb 3 (r .severity) h)
+      (passes 1 (λ e. never (cc)) (omega arith)
+      (passes 5 (λ w. w .0) (omega arith) (stops 10 (refl, h) (le-refl 10) (λ m w. absurd w)))))
+  step-refused unknown = stops 1 refl (omega arith) (events-from unknown)
+
+  pub next-refused : (w : Work) (byte : ℕ)
+      → Reports 1 (Row 1 (inRange r ≡ false) (EventRows (eventIn w byte))) (next w r byte)
+  unfolding next
+  next-refused w byte =
+      check 1 (not (inRange r)) (not-true (inRange r)) (λ e. ap not e) (le-refl 1) (step-refused (eventIn w byte))
+
+  pub next-given : (w : Work) (byte : ℕ) (t : Record)
+      → (next w r byte ≡ given t) ↔ ((inRange r ≡ true) × (step r (eventIn w byte) ≡ given t))
+  unfolding next
+  next-given w byte t = (
+    λ g.
+        let h = first-given ((not (inRange r) gives unknownForm) ∷ []) _ t .0 g in
+        (not-false (inRange r) (h .0 .0), h .1),
+    λ h. first-given ((not (inRange r) gives unknownForm) ∷ []) _ t .1 ((ap not (h .0), tt), h .1),
+  )
+
+-- 9. The screen: 7 unless there are 1 to 50 whole readings, 9 for one out of range.
+module _ (bytes : List ℕ) where
+  abbrev unfit : Bool
+  unfit = halfLeft bytes || (eqb (length bytes) 0 || ltb 100 (length bytes))
+
+  fits : (n : ℕ) → 1 ≤ n → n ≤ 50 → length bytes ≡ 2 * n → unfit ≡ false
+  fits n a b e =
+      let even : eqb (length bytes % 2) 1 ≡ false = ne-eqb (length bytes % 2) 1 (λ h. omega arith) in
+      let some : eqb (length bytes) 0 ≡ false = ne-eqb (length bytes) 0 (λ h. omega arith) in
+      let few : ltb 100 (length bytes) ≡ false = le-ltb 100 (length bytes) (omega arith) in
+      rw (even, some, few)
+
+  pub record Fits (n : ℕ) : Type 0 where
+    pub some : 1 ≤ n
+    pub few : n ≤ 50
+    pub whole : length bytes ≡ 2 * n
+
+  fit-so : unfit ≡ false → Fits (length bytes / 2)
+  fit-so t =
+      let a = or-neither (halfLeft bytes) (eqb (length bytes) 0 || ltb 100 (length bytes)) t in
+      let b = or-neither (eqb (length bytes) 0) (ltb 100 (length bytes)) (a .1) in
+      let even : length bytes % 2 ≡ 1 → ⊥ = eqb-false (length bytes % 2) 1 (a .0) in
+      let some : length bytes ≡ 0 → ⊥ = eqb-false (length bytes) 0 (b .0) in
+      let few : length bytes ≤ 100 = ltb-false 100 (length bytes) (b .1) in
+      record { some = omega arith; few = omega arith; whole = omega arith }
+
+  unfit-when : (t : Bool) → unfit ≡ t → ((n : ℕ) → Fits n → ⊥) → t ≡ true
+  unfit-when true e w = refl
+  unfit-when false e w = absurd (w (length bytes / 2) (fit-so e))
+
+  abbrev pub ScreenRows : ℕ → Type 0
+  ScreenRows = Row 7 ((n : ℕ) → Fits n → ⊥) (Row 9 (OutAt (readingsOf bytes)) NoRow)
+
+  pub screen-refused : Reports 7 ScreenRows (screen bytes)
+  unfolding screen
+  screen-refused =
+      check 7 unfit (λ t n f. false≢true (sym (fits n (f .some) (f .few) (f .whole)) ∙ t)) (unfit-when unfit refl)
+      (omega arith)
+      (check 9 (not (allInGauge (readingsOf bytes)))
+      (λ t. out-means (readingsOf bytes) (not-true (allInGauge (readingsOf bytes)) t))
+      (λ o. ap not (out-when (readingsOf bytes) o)) (le-refl 9) nothing-wrong)
+
+  pub record Screened (s : Shown) : Type 0 where
+    pub count : ℕ
+    pub fits-so : Fits count
+    pub readings-in : allInGauge (readingsOf bytes) ≡ true
+    pub shows : shownOf count (sumZ (readingsOf bytes)) (squaresZ (readingsOf bytes)) ≡ s
+
+  pub screen-given : (s : Shown) → (screen bytes ≡ given s) ↔ Screened s
+  unfolding screen
+  screen-given s = (
+    λ g.
+        let h = two .0 g in
+        record {
+          count = length bytes / 2;
+          fits-so = fit-so (h .0);
+          readings-in = not-false (allInGauge (readingsOf bytes)) (h .1);
+          shows = h .2;
+        },
+    λ c.
+        let f = c .fits-so in
+        let half : length bytes / 2 ≡ c .count = omega (arith, f .whole) in
+        two .1 (
+          fits (c .count) (f .some) (f .few) (f .whole),
+          ap not (c .readings-in),
+          ap (λ (n : ℕ). shownOf n (sumZ (readingsOf bytes)) (squaresZ (readingsOf bytes))) half ∙ c .shows,
+        ),
+  )
+    where
+      two : (screen bytes ≡ given s)
+          ↔ ((unfit ≡ false)
+          × (not (allInGauge (readingsOf bytes)) ≡ false)
+          × (shownOf (length bytes / 2) (sumZ (readingsOf bytes)) (squaresZ (readingsOf bytes)) ≡ s))
+      two = two-given _ _ 7 9 _ s
+
+-- 10. The severities of a history: its first bad byte, with its place; then 11 for a buffer shorter than the history.
+placed-refused : {A : Type 0} (at n k : ℕ) (a : Answer A) → placed at a ≡ refused n k
+    → (p : ℕ) × (a ≡ refused n p) × (at ≡ k)
+placed-refused at n k (refused m p) e =
+    (p, ap (λ (i : ℕ). refused i p) (refused-number e), refused-place e)
+placed-refused at n k (given a) e = absurd (refused-given (sym e))
+
+module _ (w : Work) (h : List ℕ) where
+  -- the record after the first i bytes
+  abbrev pub After : ℕ → Answer Record
+  After i = From w h (fresh (w .permission)) i
+
+  -- all bytes before the place are taken, and the byte there is refused
+  pub record FirstBad (n k : ℕ) : Type 0 where
+    pub so-far : Record
+    pub good : After k ≡ given so-far
+    pub place : ℕ
+    pub bad : step so-far (eventIn w (getD h k 0)) ≡ refused n place
+
+  first-bad : (m n k : ℕ) → After m ≡ refused n k → (k < m) × FirstBad n k
+  first-bad zero n k e =
+      absurd (refused-given (sym e ∙ from-first w h (fresh (w .permission)) (fresh (w .permission)) refl))
+  first-bad (suc m) n k e = on (After m) refl (sym (from-suc w h (fresh (w .permission)) m) ∙ e) (first-bad m n k)
+    where
+      on : (a : Answer Record) → After m ≡ a
+          → andThen a (λ t. placed m (step t (eventIn w (getD h m 0)))) ≡ refused n k
+          → (After m ≡ refused n k → (k < m) × FirstBad n k) → (k < suc m) × FirstBad n k
+      on (refused i p) q f more = let b = more (q ∙ f) in (le-trans (b .0) (omega arith), b .1)
+      on (given t) q f more =
+          let b = placed-refused m n k (step t (eventIn w (getD h m 0))) f in (
+            omega (arith, b .2),
+            subst (λ (i : ℕ). FirstBad n i) (b .2) (record { so-far = t; good = q; place = b .0; bad = b .1 }),
+          )
+
+  pub history-refused : (n k : ℕ) → (afterHistory w h ≡ refused n k) ↔ ((k < length h) × FirstBad n k)
+  history-refused n k = (
+    λ e. first-bad (length h) n k e,
+    λ b.
+        let f = b .1 in
+        from-refused w h (fresh (w .permission)) k (f .so-far) n (f .place) (b .0) (f .good) (sym (f .bad)),
+  )
+
+  module _ (room : ℕ) where
+    pub listed-given : (m : ℕ)
+        → (listed w h room ≡ given m)
+        ↔ (((r : Record) × (afterHistory w h ≡ given r)) × (length h ≤ room) × (length h ≡ m))
+    unfolding listed
+    listed-given m = (
+      λ g.
+          let a = then-given (afterHistory w h) _ m g in
+          let f = first-given ((ltb room (length h) gives bufferShort) ∷ []) _ m .0 (a .2) in
+          ((a .0, a .1), ltb-false room (length h) (f .0 .0), given-one (f .1)),
+      λ p. rw (p .0 .1, le-ltb room (length h) (p .1)) (ap given (p .2)),
+    )
+
+    pub listed-refused : (n k : ℕ)
+        → (listed w h room ≡ refused n k)
+        ↔ ((afterHistory w h ≡ refused n k)
+        ⊎ (((r : Record) × (afterHistory w h ≡ given r)) × (room < length h) × (n ≡ 11) × (k ≡ 0)))
+    unfolding listed
+    listed-refused n k = (λ e. so (afterHistory w h) refl e, back)
+      where
+        so : (a : Answer Record) → afterHistory w h ≡ a
+            → andThen a (λ r. firstOf ((ltb room (length h) gives bufferShort) ∷ []) (given (length h))) ≡ refused n k
+            → (afterHistory w h ≡ refused n k)
+            ⊎ (((r : Record) × (afterHistory w h ≡ given r)) × (room < length h) × (n ≡ 11) × (k ≡ 0))
+        so (refused i p) q e =
+            inl (q ∙ ap (λ (j : ℕ). refused j p) (refused-number e) ∙ ap (refused n) (refused-place e))
+        so (given r) q e =
+            by-le (length h) room
+            (λ l. absurd (refused-given {a = length h} (sym e ∙ rw (le-ltb room (length h) l))))
+            (λ l.
+            let f : refused 11 0 ≡ refused n k = sym (rw (lt-ltb room (length h) l)) ∙ e in
+            inr ((r, q), l, sym (refused-number f), sym (refused-place f)))
+
+        back : (afterHistory w h ≡ refused n k)
+            ⊎ (((r : Record) × (afterHistory w h ≡ given r)) × (room < length h) × (n ≡ 11) × (k ≡ 0))
+            → listed w h room ≡ refused n k
+        back (inl e) = rw e
+        back (inr e) = rw (e .0 .1, lt-ltb room (length h) (e .1), e .2, e .3)
