@@ -21,6 +21,7 @@ use Rattle.rules.specs.Faults.{wrongNumber, follows, missing}
 use Rattle.rules.proofs.Bounded.{by-le}
 use Rattle.rules.proofs.Numbers.{numbers-low, numbers-high}
 use Rattle.rules.proofs.SectionKinds.{key-there, entry-deep}
+use Rattle.rules.proofs.Steps.{book-long, book-is, after-end, at-end, at-broken, at-short}
 
 -- What a walk tells of a stretch of l numbers whose layout has s, with the faults F: it ends after those s, with no
 -- fault; it is broken at the lowest fault; or there are fewer than s, with no fault.
@@ -312,7 +313,7 @@ module _ (bytes : List ℕ) (fits : length bytes ≤ largestBook) where
   abbrev Said : Walk → Type 0
   Said = Tells (SectionsFault kinds (numbersOf bytes)) (bookEnd bytes) (length (numbersOf bytes))
 
-  -- a fault of a number at a byte below c, and what stands at the end no lower
+  -- a byte that is no higher than a fault of each kind
   bounded : (b c : ℕ) → ((q : ℕ) → SectionsFault kinds (numbersOf bytes) q → b ≤ 2 * q)
       → (2 * bookEnd bytes < length bytes → b ≤ 2 * bookEnd bytes)
       → (length (numbersOf bytes) < bookEnd bytes → b ≤ length bytes) → BookFault bytes c → b ≤ c
@@ -322,8 +323,9 @@ module _ (bytes : List ℕ) (fits : length bytes ≤ largestBook) where
   bounded b c n f m (missing l h e) = omega (arith, m h)
 
   walked : (w : Walk) → Said w → Claims bytes (checkedAs (length bytes) w)
-  unfolding checkedAs
-  walked (ends p) t = go (ltb (2 * p) (length bytes)) refl
+  walked (ends p) t =
+      by-le (length bytes) (2 * p) (λ h. rw (at-end (length bytes) p h) (none h))
+      (λ h. rw (after-end (length bytes) p h) (past h))
     where
       none : length bytes ≤ 2 * p → (c : ℕ) → BookFault bytes c → ⊥
       none h c (tooLong l e) = omega arith
@@ -331,31 +333,31 @@ module _ (bytes : List ℕ) (fits : length bytes ≤ largestBook) where
       none h c (follows l g e) = omega (arith, t .0)
       none h c (missing l g e) = omega (arith, t .1 .0)
 
-      go : (x : Bool) → ltb (2 * p) (length bytes) ≡ x → Claims bytes (cond x (brokenAt (2 * p)) sound)
-      go true h =
-          let past : 2 * p < length bytes = ltb-true (2 * p) (length bytes) h in
+      past : 2 * p < length bytes → Lowest bytes (2 * p)
+      past h =
           record {
-            applies = follows fits (rw (t .0) at past) (omega (arith, t .0));
+            applies = follows fits (rw (t .0) at h) (omega (arith, t .0));
             least =
                 λ c. bounded (2 * p) c (λ q x. absurd (t .1 .1 q x)) (λ g. omega (arith, t .0)) (λ g. omega arith);
           }
-      go false h = none (ltb-false (2 * p) (length bytes) h)
   walked (broken p) t =
-      record {
+      rw (at-broken (length bytes) p)
+      (record {
         applies = wrongNumber fits p refl (t .0);
         least =
             λ c.
             bounded (2 * p) c (λ q x. omega (arith, t .1 .1 .1 q x)) (λ g. omega (arith, t .1 .0))
             (λ g. omega (arith, t .1 .1 .0, numbers-low bytes));
-      }
+      })
   walked short t =
-      record {
+      rw (at-short (length bytes))
+      (record {
         applies = missing fits (t .0) refl;
         least =
             λ c.
             bounded (length bytes) c (λ q x. absurd (t .1 q x)) (λ g. omega (arith, t .0, numbers-high bytes))
             (λ g. omega arith);
-      }
+      })
 
 only-too-long : (bytes : List ℕ) → largestBook < length bytes → (c : ℕ) → BookFault bytes c → largestBook ≤ c
 only-too-long bytes h c (tooLong l e) = omega arith
@@ -364,17 +366,13 @@ only-too-long bytes h c (follows l g e) = omega arith
 only-too-long bytes h c (missing l g e) = omega arith
 
 book-claims : (bytes : List ℕ) → Claims bytes (checkBook bytes)
-unfolding checkBook
-book-claims bytes = go (ltb largestBook (length bytes)) refl
-  where
-    go : (x : Bool) → ltb largestBook (length bytes) ≡ x
-        → Claims bytes (cond x (brokenAt largestBook) (checkedAs (length bytes) (sections kinds (numbersOf bytes))))
-    go true h =
-        let long : largestBook < length bytes = ltb-true largestBook (length bytes) h in
-        record { applies = tooLong long refl; least = only-too-long bytes long }
-    go false h =
-        walked bytes (ltb-false largestBook (length bytes) h) (sections kinds (numbersOf bytes))
-        (sections-tell kinds (λ j l. (key-there j l, entry-deep j l)) (numbersOf bytes))
+book-claims bytes =
+    by-le (length bytes) largestBook
+    (λ h.
+    rw (book-is bytes (sections kinds (numbersOf bytes)) h refl)
+    (walked bytes h (sections kinds (numbersOf bytes))
+    (sections-tell kinds (λ j l. (key-there j l, entry-deep j l)) (numbersOf bytes))))
+    (λ h. rw (book-long bytes h) (record { applies = tooLong h refl; least = only-too-long bytes h }))
 
 pub lowest : (bytes : List ℕ) (b : ℕ) → checkBook bytes ≡ brokenAt b → Lowest bytes b
 lowest bytes b e = rw e at (book-claims bytes)

@@ -8,7 +8,7 @@ use mathlib.Core.List.{List}
 use native.Mathlib.Omega.{arith}
 use borrow.Author.Tests.{ltb-true, leb-true, le-leb}
 use lib.ListN.{getD, take}
-use lib.Dec.{ltb, leb}
+use lib.Dec.{leb}
 use Rattle.rules.specs.Book.{Kind, Range, within, anything, right, numbersFrom, sizeOf, couldHold}
 use Rattle.rules.specs.Book.{reducedSingles, sequential, variables, sequentialRule, atFits}
 use Rattle.rules.specs.Book.{sequentialOf, variablesOf}
@@ -128,7 +128,7 @@ unfolding atFits
 fits-accepts hA hR g nt x d f h =
     let a : (g * nt - 100 * hA) / 100000 ≤ x =
     leb-true ((g * nt - 100 * hA) / 100000) x
-    (and-left (leb ((g * nt - 100 * hA) / 100000) x) (ltb x ((g * nt + 100 * hR + 99999) / 100000)) f) in
+    (and-left (leb ((g * nt - 100 * hA) / 100000) x) _ f) in
     let b : 100000 * d + 100 * hA ≤ g * nt = leb-true (100000 * d + 100 * hA) (g * nt) h in
     omega arith
 
@@ -137,7 +137,7 @@ unfolding atFits
 fits-rejects hA hR g nt x d f h =
     let a : x < (g * nt + 100 * hR + 99999) / 100000 =
     ltb-true x ((g * nt + 100 * hR + 99999) / 100000)
-    (and-right (leb ((g * nt - 100 * hA) / 100000) x) (ltb x ((g * nt + 100 * hR + 99999) / 100000)) f) in
+    (and-right (leb ((g * nt - 100 * hA) / 100000) x) _ f) in
     let b : g * nt + 100 * hR ≤ 100000 * d = leb-true (g * nt + 100 * hR) (100000 * d) h in
     omega arith
 

@@ -72,10 +72,9 @@ module _ (first last : Bool) (before ac re : ℕ) (h : reKeeps first last before
 
   re-past : first ≡ false → before ≤ re
   unfolding reKeeps
-  re-past e = leb-true before re (or-unless first (leb before re) (and-left (first || leb before re) _ after) e)
-    where
-      after : (first || leb before re) && (eqb ac mark || cond last (eqb re (ac + 1)) (ltb ac re)) ≡ true
-      after = and-right (leb re 65534) _ h
+  re-past e =
+      leb-true before re
+      (or-unless first (leb before re) (and-left (first || leb before re) _ (and-right (leb re 65534) _ h)) e)
 
   over : (ac ≡ mark → ⊥) → cond last (eqb re (ac + 1)) (ltb ac re) ≡ true
   unfolding reKeeps
