@@ -2,3 +2,4 @@
 -- Assumes nothing.
 pub mod Three
 pub mod Two
+pub mod TypedBooks

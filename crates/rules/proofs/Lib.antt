@@ -31,7 +31,6 @@ pub mod Stays
 pub mod Steps
 pub mod Switches
 pub mod Tables
-pub mod TypedBooks
 pub mod Walks
 pub mod Window
 pub mod Worked
