@@ -2,31 +2,29 @@
 -- sound book passes the test of plans that are handed over.
 -- Assumes nothing.
 use Prim.Native.Nat.{ℕ, _+_, _*_, _-_, _/_, _≤_, _<_}
-use mathlib.Core.Path.{_≡_, refl, sym, _∙_}
-use mathlib.Core.Bool.{Bool, true, false, cond, _&&_, true≢false}
-use mathlib.Core.List.{List}
+use mathlib.Core.Path.{_≡_, refl, ap, sym, _∙_}
+use mathlib.Core.Bool.{Bool, true, false, cond}
+use mathlib.Core.List.{List, [], _∷_}
 use native.Mathlib.Omega.{arith}
-use borrow.Author.Tests.{ltb-true, leb-true, le-leb}
-use lib.ListN.{getD, take}
+use borrow.Author.Tests.{ltb-true, leb-true, le-leb, lt-leb, le-ltb}
+use lib.ListN.{getD, length, take}
+use lib.Seq.{getD-take}
 use lib.Dec.{leb}
 use Rattle.rules.specs.Book.{Kind, Range, within, anything, right, numbersFrom, sizeOf, couldHold}
 use Rattle.rules.specs.Book.{reducedSingles, sequential, variables, sequentialRule, atFits}
 use Rattle.rules.specs.Book.{sequentialOf, variablesOf}
 use Rattle.rules.specs.Codes.{letterOf}
 use Rattle.rules.specs.Single.{Plan, cutTo}
-use Rattle.rules.specs.Sequential.{SequentialPlan, onAcceptLine, onRejectLine}
+use Rattle.rules.specs.Sequential.{SequentialPlan, onAcceptLine, onRejectLine, itemDecides}
+use Rattle.rules.specs.Verdict.{accepts, rejects}
+use Rattle.rules.specs.Numbers.{numbersOf}
+use Rattle.rules.specs.Book.{checkBook, sound, kinds, kindAt, lookUp, Found, found, nothing}
 use Rattle.rules.specs.Variables.{VariablesPlan}
 use Rattle.rules.specs.Entries.{Asked, singleEntry, sequentialEntry, variablesEntry, reducedPlan}
+use Rattle.rules.proofs.Bools.{and-left, and-right}
+use Rattle.rules.proofs.SectionKinds.{item-columns, entry-deep}
 use Rattle.rules.proofs.Steps.{sequential-at}
-use Rattle.rules.proofs.LookUp.{Held, held}
-
-pub and-left : (a b : Bool) → a && b ≡ true → a ≡ true
-and-left true b h = refl
-and-left false b h = h
-
-pub and-right : (a b : Bool) → a && b ≡ true → b ≡ true
-and-right true b h = h
-and-right false b h = absurd (true≢false (sym h))
+use Rattle.rules.proofs.LookUp.{Held, held, found-held, found-under}
 
 -- a number that is right is in its range, and keeps its rules
 module _ (k : Kind) (e : List ℕ) (h : Held k e) (p : ℕ) (l : p < sizeOf k e) where
@@ -180,3 +178,31 @@ sequential-could e h =
       le-leb (getD e 7 0) 65535 (r .atNt),
       sequential-fits e h,
     )
+
+-- At the last item the verdict by At is the one that a line gives.
+pub accept-line : (p : SequentialPlan) → SequentialRight p → (d : ℕ) → onAcceptLine p (p .nt) d ≡ true
+    → itemDecides p (p .nt) d ≡ accepts
+unfolding itemDecides
+accept-line p r d h = rw (le-ltb (p .nt) (p .nt) (omega arith), le-leb d (p .atNt) (r .accepts d h))
+
+pub reject-line : (p : SequentialPlan) → SequentialRight p → (d : ℕ) → onRejectLine p (p .nt) d ≡ true
+    → itemDecides p (p .nt) d ≡ rejects
+unfolding itemDecides
+reject-line p r d h = rw (le-ltb (p .nt) (p .nt) (omega arith), lt-leb d (p .atNt) (r .rejects d h))
+
+-- Where columns go to 15 only, nothing stands under a higher one: sequential and variables lots there are refused 6.
+pub no-higher-column : (book : List ℕ) → checkBook book ≡ sound → (j : ℕ) → 2 ≤ j → j < length kinds
+    → (severity letter column : ℕ) → 15 < column → lookUp j severity letter column (numbersOf book) ≡ nothing
+no-higher-column book good j l h severity letter column c = go (lookUp j severity letter column (numbersOf book)) refl
+  where
+    go : (f : Found) → lookUp j severity letter column (numbersOf book) ≡ f → f ≡ nothing
+    go nothing e = refl
+    go (found e) q =
+        let k = item-columns j h l in
+        let r = in-range (kindAt j) e (found-held book good j h severity letter column e q) 2
+        (omega (arith, k .0, entry-deep j h (getD e (kindAt j .key) 0))) in
+        let top : getD e 2 0 ≤ 15 = rw (k .1) at (r .1) in
+        let key : take 3 e ≡ severity ∷ letter ∷ column ∷ [] =
+        rw (k .0) at (found-under book good j h severity letter column e q) in
+        let same : getD e 2 0 ≡ column = sym (getD-take 3 e 2 0 (omega arith)) ∙ ap (λ (x : List ℕ). getD x 2 0) key in
+        let z : ⊥ = omega arith in absurd z

@@ -15,11 +15,12 @@ use Rattle.rules.specs.Book.{stagedNumber, stagedRule, every, seven, sta
 use Rattle.rules.specs.Staged.{StagedPlan, Stage, stageDecides, mark}
 use Rattle.rules.specs.Verdict.{accepts, rejects, goesOn}
 use Rattle.rules.specs.Entries.{stagedEntry, pairsFrom}
+use Rattle.rules.proofs.Bools.{and-left, and-right, or-unless}
 use Rattle.rules.proofs.Bounded.{by-le}
 use Rattle.rules.proofs.SampleSteps.{stageAt}
 use Rattle.rules.proofs.Steps.{staged-at, staged-free}
 use Rattle.rules.proofs.LookUp.{Held, held, could-hold}
-use Rattle.rules.proofs.HeldPlans.{and-left, and-right, in-range, keeps-rule}
+use Rattle.rules.proofs.HeldPlans.{in-range, keeps-rule}
 
 -- The numbers of a staged entry of m stages by stage: "neither number falls, Ac under Re, last Re = Ac + 1 .."
 record ByStage (m : ℕ) (size ac re : ℕ → ℕ) : Type 0 where
@@ -59,10 +60,6 @@ ac-first last b c x = refl
 re-first : (last : Bool) (b c x y : ℕ) → reKeeps true last b x y ≡ reKeeps true last c x y
 unfolding reKeeps
 re-first last b c x y = refl
-
-or-unless : (a b : Bool) → a || b ≡ true → a ≡ false → b ≡ true
-or-unless true b h e = absurd (true≢false e)
-or-unless false b h e = h
 
 -- what the rules say of Re and of Ac
 module _ (first last : Bool) (before ac re : ℕ) (h : reKeeps first last before ac re ≡ true) where

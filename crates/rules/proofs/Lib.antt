@@ -1,6 +1,7 @@
 pub mod Agreement
 pub mod Answers
 pub mod Append
+pub mod Bools
 pub mod Bounded
 pub mod Bytes
 pub mod Checks

@@ -17,6 +17,7 @@ use Rattle.rules.specs.Book.{largestBook, sound, brokenAt, checkedAs, ch
 use Rattle.rules.specs.Book.{keyFor, sameKey, seek, seekIn, lookUp, isEnd, couldHold}
 use Rattle.rules.specs.Faults.{EntryFault, keyStays}
 use Rattle.rules.specs.Layout.{entryAt, keyBefore, sectionSize, sectionAt, entryOf, sectionFrom, EntryIn}
+use Rattle.rules.proofs.Bools.{true-unless}
 use Rattle.rules.proofs.Walks.{broken-no-end, short-no-end, entry-ends}
 use Rattle.rules.proofs.Steps.{rises-less, rises-same}
 use Rattle.rules.proofs.SectionKinds.{key-there, entry-deep}
@@ -26,11 +27,6 @@ use Rattle.rules.proofs.Faults.{Tells, Wrong, numbers-tell, wrong-is, D
 pub record Held (k : Kind) (e : List ℕ) : Type 0 where
   pub whole : sizeOf k e ≤ length e
   pub each : (p : ℕ) → p < sizeOf k e → right k e p ≡ true
-
--- a number that is not wrong is right
-right-unless : (b : Bool) → (b ≡ false → ⊥) → b ≡ true
-right-unless true f = refl
-right-unless false f = absurd (f refl)
 
 module _ (k : Kind) (e : List ℕ) where
   told : Tells (Wrong k e 0 (sizeOf k e)) (sizeOf k e) (length e) (numbersFrom k e (sizeOf k e) 0)
@@ -46,7 +42,7 @@ module _ (k : Kind) (e : List ℕ) where
             whole = t .1 .0;
             each =
                 λ p l.
-                right-unless (right k e p) (λ w. t .1 .1 p (omega arith, (l, (omega (arith, t .1 .0), w))));
+                true-unless (right k e p) (λ w. t .1 .1 p (omega arith, (l, (omega (arith, t .1 .0), w))));
           }
       go (broken p) h t = absurd (true≢false (sym h))
       go short h t = absurd (true≢false (sym h))
@@ -203,7 +199,7 @@ module _ (k : Kind) (deep : Deep k) (before ws : List ℕ) (s : ℕ) (e : entry 
 
   key-rises : rises before (keyOf k ws) ≡ true
   key-rises =
-      right-unless (rises before (keyOf k ws))
+      true-unless (rises before (keyOf k ws))
       (λ f. entry-told .1 0 (keyStays refl (omega (arith, entry-told .0, key-whole)) f))
 
   entry-key : keyOf k (entryOf k ws) ≡ keyOf k ws
@@ -221,7 +217,7 @@ module _ (k : Kind) (deep : Deep k) (before ws : List ℕ) (s : ℕ) (e : entry 
             λ p l.
             let m : p < sizeOf k ws = rw entry-size at l in
             rw (getD-take (sizeOf k ws) ws p 0 m, take-take p (sizeOf k ws) ws (omega arith))
-            (right-unless (right k ws p)
+            (true-unless (right k ws p)
             (λ f.
             entry-told .1 p
             (wrong-is k before ws p (omega arith, (m, (omega (arith, entry-told .0), f))))));

@@ -4,7 +4,7 @@ use Prim.Native.Nat.{ℕ, zero, suc, _+_, _*_, _/_, _%_, _<_, _≤_}
 use mathlib.Core.Path.{_≡_, refl}
 use lib.ListN.{getD, List·getD-eq-default}
 use native.Mathlib.Omega.{arith}
-use Rattle.rules.specs.Book.{kindAt, Range, anything, reducedSingles, staged, sequential, variables}
+use Rattle.rules.specs.Book.{kindAt, Range, anything, itemColumn, reducedSingles, staged, sequential, variables}
 
 pub each-kind : (P : ℕ → Type 0) → P 0 → P 1 → P 2 → P 3 → (n : ℕ) → n < 4 → P n
 each-kind P a b c d zero h = a
@@ -45,3 +45,10 @@ pub entry-deep : (n : ℕ) → n < 4 → (x : ℕ) → kindAt n .key < kindAt n 
 entry-deep =
     each-kind (λ n. (x : ℕ) → kindAt n .key < kindAt n .size x) (λ x. omega arith) (λ x. omega arith) (λ x. omega arith)
     (λ x. omega arith)
+
+-- "0 to 15 in 3 and 4"
+pub item-columns : (n : ℕ) → n < 4 → 2 ≤ n → (kindAt n .key ≡ 3) × (getD (kindAt n .ranges) 2 anything ≡ itemColumn)
+item-columns =
+    each-kind (λ n. 2 ≤ n → (kindAt n .key ≡ 3) × (getD (kindAt n .ranges) 2 anything ≡ itemColumn))
+    (λ h. let z : ⊥ = omega arith in absurd z) (λ h. let z : ⊥ = omega arith in absurd z) (λ h. (refl, refl))
+    (λ h. (refl, refl))

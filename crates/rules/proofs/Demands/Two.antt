@@ -42,7 +42,7 @@ use Rattle.rules.specs.History.{Work, eventIn, placed, afterHistory, lis
 use Rattle.rules.proofs.Histories.{From, from-suc, from-first, from-refused}
 use Rattle.rules.specs.Screen.{Shown, screen, shownOf}
 use Rattle.rules.proofs.Bounded.{by-le}
-use Rattle.rules.proofs.HeldPlans.{and-left, and-right}
+use Rattle.rules.proofs.Bools.{and-left, and-right}
 use Rattle.rules.proofs.Answers.{refused-given, given-one, then-given}
 use Rattle.rules.proofs.Checks.{Plannable}
 use Rattle.rules.proofs.Items.{IllegalAt, any-means, any-when, or-neither}
