@@ -17,7 +17,7 @@ use Rattle.rules.specs.Codes.{illegal, anyIllegal}
 use Rattle.rules.specs.Verdict.{Verdict, goesOn, ended, decided}
 use Rattle.rules.specs.Sequential.{SequentialPlan, itemDecides, sequentialVerdict, sequentialFrom, judgeSequence}
 use Rattle.rules.specs.Staged.{Stage, StagedPlan, stagesFrom, stagesOf, totalSize, stageDecides, Taken}
-use Rattle.rules.specs.Staged.{missing, over}
+use Rattle.rules.specs.Staged.{stageAt, missing, over}
 use Rattle.rules.specs.Staged.{taken, takeItems, Standing, stagedVerdict, afterStage, stagedFrom}
 use Rattle.rules.specs.Staged.{judgeStages}
 use Rattle.rules.proofs.Parts.{Part, endOf, decidesAt, says, Decides, Say, afterPart, walk, Judged, sound}
@@ -27,7 +27,6 @@ use Rattle.rules.proofs.Items.{illegal-means, illegal-when}
 use Rattle.rules.proofs.Answers.{refused-given}
 use Rattle.rules.proofs.Refusals.{Row, NoRow, Reports, stops, passes, nothing-wrong}
 use Rattle.rules.proofs.Refusals.{refused-number, last-from}
-use Rattle.rules.proofs.SampleSteps.{stageAt}
 
 -- 8 for an illegal item that a walk meets; 7 where it meets none and there is no verdict.
 abbrev pub SampleRows : (Verdict → Type 0) → Type 0 → ℕ → Type 0

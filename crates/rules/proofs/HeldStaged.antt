@@ -12,12 +12,11 @@ use lib.Seq.{getD-take, getD-append-add, length-take-le}
 use lib.Dec.{ltb, leb, eqb}
 use Rattle.rules.specs.Book.{within, anything, _to_, right, couldHold, staged, acKeeps, reKeeps}
 use Rattle.rules.specs.Book.{stagedNumber, stagedRule, every, seven, stagedOf}
-use Rattle.rules.specs.Staged.{StagedPlan, Stage, stageDecides, mark}
+use Rattle.rules.specs.Staged.{StagedPlan, Stage, stageAt, stageDecides, mark}
 use Rattle.rules.specs.Verdict.{accepts, rejects, goesOn}
 use Rattle.rules.specs.Entries.{stagedEntry, pairsFrom}
 use Rattle.rules.proofs.Bools.{and-left, and-right, or-unless}
 use Rattle.rules.proofs.Bounded.{by-le}
-use Rattle.rules.proofs.SampleSteps.{stageAt}
 use Rattle.rules.proofs.Steps.{staged-at, staged-free}
 use Rattle.rules.proofs.LookUp.{Held, held, could-hold}
 use Rattle.rules.proofs.HeldPlans.{in-range, keeps-rule}

@@ -13,6 +13,7 @@ pub mod Faults
 pub mod GivenPlans
 pub mod HeldPlans
 pub mod HeldStaged
+pub mod HeldTests
 pub mod Histories
 pub mod Items
 pub mod Landing

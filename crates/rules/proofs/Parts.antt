@@ -3,7 +3,7 @@
 -- Assumes nothing.
 use Prim.Native.Nat.{ℕ, zero, suc, _+_, _-_, _≤_, _<_, suc-le-suc}
 use mathlib.Core.Path.{_≡_, refl, sym, ap, _∙_}
-use mathlib.Core.Bool.{Bool, true, false}
+use mathlib.Core.Bool.{Bool, true, false, cond}
 use mathlib.Core.List.{List, [], _∷_}
 use native.Mathlib.Nat.{add-zero, le-of-suc-le-suc}
 use native.Mathlib.Omega.{arith}
@@ -38,8 +38,7 @@ decidesAt (suc zero) (p ∷ ps) total = p .decides total
 decidesAt (suc (suc j)) (p ∷ ps) total = decidesAt (suc j) ps total
 
 abbrev pub says : Bool → Decision
-says true = accepts
-says false = rejects
+says accepted = cond accepted accepts rejects
 
 -- After a total, the items end with the part j, which decides.
 pub record Decides (column total : ℕ) (ps : List Part) (xs : List ℕ) (j : ℕ) (accepted : Bool) : Type 0 where
@@ -74,7 +73,7 @@ ended-so half (x ∷ rest) v w e = absurd (refused-given e)
 ended-when : (half : Bool) (rest : List ℕ) (v : Verdict) → half ≡ false → rest ≡ [] → ended half rest v ≡ given v
 ended-when half rest v e f = rw (f, e)
 
-decided-says : (a : Bool) (f : Bool → Answer Verdict) (later : Answer Verdict) → decided (says a) f later ≡ f a
+pub decided-says : (a : Bool) (f : Bool → Answer Verdict) (later : Answer Verdict) → decided (says a) f later ≡ f a
 decided-says true f later = refl
 decided-says false f later = refl
 

@@ -1,128 +1,173 @@
--- One item of a sequential walk, one item and one stage of a staged walk, over the numbers of a sample from a place on.
+-- The walks over a sample, as loops that count up take them: where a walk has come to, and a law for each exit.
 -- Assumes nothing.
-use Prim.Native.Nat.{ℕ, suc, _+_, _-_, _*_, _%_, _≤_, _<_}
-use mathlib.Core.Path.{_≡_, refl}
+use Prim.Native.Nat.{ℕ, zero, suc, _+_, _-_, _*_, _%_, _≤_, _<_}
+use mathlib.Core.Path.{_≡_, refl, _∙_}
 use mathlib.Core.Bool.{Bool, true, false, cond}
 use mathlib.Core.List.{List, [], _∷_}
-use native.Mathlib.Numerals.{add-one, sub-one}
+use native.Mathlib.Numerals.{add-one}
 use native.Mathlib.Omega.{arith}
-use borrow.Author.Tests.{lt-ltb, le-ltb, eq-eqb, ne-eqb}
-use lib.Dec.{eqb}
-use lib.ListN.{length, getD, drop}
-use Rattle.rules.specs.Refusals.{refused, given, wrongLength, illegalItem}
+use borrow.Author.Tests.{lt-ltb, le-ltb, eq-eqb, ne-eqb, ltb-true}
+use lib.Dec.{eqb, ltb, leb}
+use lib.ListN.{length, getD, drop, drop-of-length-le}
+use lib.Seq.{drop-cons}
+use Rattle.rules.specs.Refusals.{Answer, refused, given, wrongLength, illegalItem}
 use Rattle.rules.specs.Numbers.{numbersOf, halfLeft}
 use Rattle.rules.specs.Codes.{illegal}
-use Rattle.rules.specs.Verdict.{Verdict, ended, decided}
+use Rattle.rules.specs.Verdict.{Verdict, Decision, accepts, rejects, goesOn, ended, decided}
 use Rattle.rules.specs.Sequential.{SequentialPlan, itemDecides, sequentialFrom, sequentialVerdict}
-use Rattle.rules.specs.Staged.{Stage, StagedPlan, stagesFrom, stageDecides, missing, over, taken}
-use Rattle.rules.specs.Staged.{takeItems, Standing, stagedVerdict, further, stagedFrom}
+use Rattle.rules.specs.Sequential.{judgeSequence}
+use Rattle.rules.specs.Staged.{StagedPlan, stageAt, stagesFrom, stageDecides, Taken, missing, over, taken}
+use Rattle.rules.specs.Staged.{takeItems, Standing, stagedVerdict, stagedFrom, judgeStages}
 use Rattle.rules.proofs.Numbers.{numbers-next, numbers-end}
 use Rattle.rules.proofs.Bounded.{by-le}
+use Rattle.rules.proofs.Parts.{says, decided-says}
 
--- the item at a place of a sample, and the items after those before a place
-abbrev pub itemAt : List ℕ → ℕ → ℕ
-itemAt s i = getD s (2 * i) 0 + 256 * getD s (2 * i + 1) 0
-
-abbrev pub itemsFrom : List ℕ → ℕ → List ℕ
-itemsFrom s i = drop i (numbersOf s)
-
-module _ (s : List ℕ) (i : ℕ) where
-  pub items-next : 2 * i + 1 < length s → itemsFrom s i ≡ itemAt s i ∷ itemsFrom s (i + 1)
-  items-next h = rw (add-one i) (numbers-next s i h)
-
-  -- "The sample must end at the very item (sequential) or stage (staged) that decides"
-  pub ended-there : (v : Verdict) → length s ≡ 2 * i → ended (halfLeft s) (itemsFrom s i) v ≡ given v
-  ended-there v h =
+-- "The sample must end at the very item (sequential) or stage (staged) that decides"
+module _ (s : List ℕ) (i : ℕ) (v : Verdict) where
+  pub ended-there : length s ≡ 2 * i → ended (halfLeft s) (drop i (numbersOf s)) v ≡ given v
+  ended-there h =
       let even : eqb (length s % 2) 1 ≡ false = ne-eqb (length s % 2) 1 (λ e. omega arith) in
-      let e : itemsFrom s i ≡ [] = numbers-end s i (omega arith) in
+      let e : drop i (numbersOf s) ≡ [] = numbers-end s i (omega arith) in
       rw (e, even)
 
-  pub ended-past : (v : Verdict) → 2 * i < length s → ended (halfLeft s) (itemsFrom s i) v ≡ refused wrongLength 0
-  ended-past v h =
+  pub ended-past : 2 * i < length s → ended (halfLeft s) (drop i (numbersOf s)) v ≡ refused wrongLength 0
+  ended-past h =
       by-le (length s) (2 * i + 1)
       (λ l. let odd : eqb (length s % 2) 1 ≡ true = eq-eqb (length s % 2) 1 (omega arith) in
-      let e : itemsFrom s i ≡ [] = numbers-end s i l in
+      let e : drop i (numbersOf s) ≡ [] = numbers-end s i l in
       rw (e, odd))
-      (λ l. rw (items-next l))
+      (λ l. rw (numbers-next s i l))
 
-  -- One item of a sequential walk, after n items with total d.
-  module _ (p : SequentialPlan) (half : Bool) (n d : ℕ) where
-    pub sequential-short : length s ≤ 2 * i + 1 → sequentialFrom p half n d (itemsFrom s i) ≡ refused wrongLength 0
+items-next : (ws : List ℕ) (i x : ℕ) → x ≡ getD ws i 0 → i < length ws → drop i ws ≡ x ∷ drop (i + 1) ws
+items-next ws i x e h = rw (e, add-one i) (drop-cons ws i 0 h)
+
+-- A sequential walk has come to the item at place i, with total d.
+pub record SequentialAt (p : SequentialPlan) (s : List ℕ) (i d : ℕ) : Type 0 where
+  pub walk : judgeSequence p s ≡ sequentialFrom p (halfLeft s) i d (drop i (numbersOf s))
+
+pub sequential-start : (p : SequentialPlan) (s : List ℕ) → SequentialAt p s 0 0
+unfolding judgeSequence
+sequential-start p s = record { walk = refl }
+
+module _ {p : SequentialPlan} {s : List ℕ} {i d : ℕ} (w : SequentialAt p s i d) where
+  pub sequential-short : length (numbersOf s) ≤ i → judgeSequence p s ≡ refused wrongLength 0
+  unfolding sequentialFrom
+  sequential-short h = w .walk ∙ rw (drop-of-length-le (numbersOf s) h)
+
+  module _ (there : i < length (numbersOf s)) {x : ℕ} (is : x ≡ getD (numbersOf s) i 0) where
+    pub sequential-over : 1 < x → judgeSequence p s ≡ refused illegalItem 0
     unfolding sequentialFrom
-    sequential-short h = rw (numbers-end s i h)
+    sequential-over h = w .walk ∙ rw (items-next (numbersOf s) i x is there, lt-ltb 1 x h)
 
-    pub sequential-over : 2 * i + 1 < length s → 1 < itemAt s i
-        → sequentialFrom p half n d (itemsFrom s i) ≡ refused illegalItem 0
+    item : x ≤ 1
+        → judgeSequence p s
+        ≡ decided (itemDecides p (i + 1) (d + x))
+        (λ a. ended (halfLeft s) (drop (i + 1) (numbersOf s)) (sequentialVerdict (i + 1) (d + x) a))
+        (sequentialFrom p (halfLeft s) (i + 1) (d + x) (drop (i + 1) (numbersOf s)))
     unfolding sequentialFrom
-    sequential-over h x = rw (items-next h, lt-ltb 1 (itemAt s i) x)
+    item h = w .walk ∙ rw (items-next (numbersOf s) i x is there, le-ltb 1 x h, add-one i)
 
-    pub sequential-item : 2 * i + 1 < length s → itemAt s i ≤ 1
-        → sequentialFrom p half n d (itemsFrom s i)
-        ≡ decided (itemDecides p (n + 1) (d + itemAt s i))
-        (λ accepted. ended half (itemsFrom s (i + 1)) (sequentialVerdict (n + 1) (d + itemAt s i) accepted))
-        (sequentialFrom p half (n + 1) (d + itemAt s i) (itemsFrom s (i + 1)))
-    unfolding sequentialFrom
-    sequential-item h x = rw (items-next h, le-ltb 1 (itemAt s i) x, add-one n)
+    pub sequential-decides : x ≤ 1 → (a : Bool) → itemDecides p (i + 1) (d + x) ≡ says a
+        → judgeSequence p s
+        ≡ ended (halfLeft s) (drop (i + 1) (numbersOf s)) (sequentialVerdict (i + 1) (d + x) a)
+    sequential-decides h a e = item h ∙ rw e (decided-says a _ _)
 
-  -- One item of a stage, where k are still to be taken.
-  module _ (column k total : ℕ) where
-    pub take-none : k ≡ 0 → takeItems column k total (itemsFrom s i) ≡ taken total (itemsFrom s i)
+    pub sequential-goes : x ≤ 1 → itemDecides p (i + 1) (d + x) ≡ goesOn → SequentialAt p s (i + 1) (d + x)
+    sequential-goes h e = record { walk = item h ∙ rw e }
+
+-- "At the last item nt: accept when D ≤ At, else reject": no walk goes on from there
+pub goes-before : (p : SequentialPlan) (n d : ℕ) → itemDecides p n d ≡ goesOn → n < p .nt
+unfolding itemDecides
+goes-before p n d e = go (ltb n (p .nt)) (leb d (p .atNt)) _ refl e
+  where
+    go : (b t : Bool) (x : Decision) → ltb n (p .nt) ≡ b → cond b x (cond t accepts rejects) ≡ goesOn → n < p .nt
+    go true t x f h = ltb-true n (p .nt) f
+    go false true x f h = let z : _≡_ {A = ℕ} 0 1 = cc in omega arith
+    go false false x f h = let z : _≡_ {A = ℕ} 0 1 = cc in omega arith
+
+-- Taking k items from place f on has come to place i, with total t.
+pub record TakingAt (column k total f : ℕ) (ws : List ℕ) (i t : ℕ) : Type 0 where
+  pub walk : takeItems column k total (drop f ws) ≡ takeItems column (f + k - i) t (drop i ws)
+
+pub taking-start : (column k total f : ℕ) (ws : List ℕ) → TakingAt column k total f ws f total
+taking-start column k total f ws = let e : f + k - f ≡ k = omega arith in record { walk = rw e }
+
+module _ {column k total f : ℕ} {ws : List ℕ} {i t : ℕ} (w : TakingAt column k total f ws i t) where
+  pub taking-done : i ≡ f + k → takeItems column k total (drop f ws) ≡ taken t (drop (f + k) ws)
+  unfolding takeItems
+  taking-done h = let e : f + k - i ≡ 0 = omega arith in w .walk ∙ rw (e, h)
+
+  module _ (more : i < f + k) where
+    one-less : f + k - i ≡ suc (f + k - (i + 1))
+    one-less = omega arith
+
+    pub taking-missing : length ws ≤ i → takeItems column k total (drop f ws) ≡ missing
     unfolding takeItems
-    take-none e = rw e
+    taking-missing h = w .walk ∙ rw (drop-of-length-le ws h, one-less)
 
-    pub take-missing : 0 < k → length s ≤ 2 * i + 1 → takeItems column k total (itemsFrom s i) ≡ missing
-    unfolding takeItems
-    take-missing more h =
-        let e : k ≡ suc (k - 1) = omega arith in
-        rw (numbers-end s i h, e)
+    module _ (there : i < length ws) {x : ℕ} (is : x ≡ getD ws i 0) where
+      pub taking-over : illegal column x ≡ true → takeItems column k total (drop f ws) ≡ over
+      unfolding takeItems
+      taking-over e = w .walk ∙ rw (items-next ws i x is there, one-less, e)
 
-    pub take-item : 0 < k → 2 * i + 1 < length s
-        → takeItems column k total (itemsFrom s i)
-        ≡ cond (illegal column (itemAt s i)) over
-        (takeItems column (k - 1) (total + itemAt s i) (itemsFrom s (i + 1)))
-    unfolding takeItems
-    take-item more h =
-        let e : k ≡ suc (k - 1) = omega arith in
-        rw (items-next h, e, sub-one (suc (k - 1)))
+      pub taking-item : illegal column x ≡ false → TakingAt column k total f ws (i + 1) (t + x)
+      unfolding takeItems
+      taking-item e = record { walk = w .walk ∙ rw (items-next ws i x is there, one-less, e) }
 
--- the stage at a place of a plan, and the stages from there on
-abbrev pub stageAt : StagedPlan → ℕ → Stage
-stageAt p i = record { size = getD (p .sizes) i 0; ac = getD (p .acs) i 0; re = getD (p .res) i 0 }
+-- after i stages of the plan, with so many items used
+abbrev pub after : StagedPlan → ℕ → ℕ → Standing
+after p i used = record { stages = p .stages; stage = i; used = used }
 
-module _ (p : StagedPlan) (m i : ℕ) where
-  pub stages-next : i < m → stagesFrom (m - i) i p ≡ stageAt p i ∷ stagesFrom (m - (i + 1)) (i + 1) p
-  unfolding stagesFrom
-  stages-next h =
-      let e : m - i ≡ suc (m - (i + 1)) = omega arith in
-      rw (e, add-one i)
+-- A staged walk has come to the stage at place i, after `used` items with their total.
+pub record StagedAt (column : ℕ) (p : StagedPlan) (s : List ℕ) (i used total : ℕ) : Type 0 where
+  pub walk :
+      judgeStages column p s
+      ≡ stagedFrom column (halfLeft s) (stagesFrom (p .stages - i) i p) (after p i used) total
+      (drop used (numbersOf s))
 
-  pub stages-end : m ≤ i → stagesFrom (m - i) i p ≡ []
-  unfolding stagesFrom
-  stages-end h =
-      let e : m - i ≡ 0 = omega arith in
-      rw e
+pub staged-start : (column : ℕ) (p : StagedPlan) (s : List ℕ) → StagedAt column p s 0 0 0
+unfolding judgeStages
+staged-start column p s = let e : p .stages - 0 ≡ p .stages = omega arith in record { walk = rw e }
 
--- One stage of a staged walk.
-module _ (column : ℕ) (half : Bool) (s : Stage) (ss : List Stage) (at : Standing) (total : ℕ) (items : List ℕ) where
-  pub staged-missing : takeItems column (s .size) total items ≡ missing
-      → stagedFrom column half (s ∷ ss) at total items ≡ refused wrongLength 0
-  unfolding stagedFrom
-  staged-missing e = rw e
+module _ {column : ℕ} {p : StagedPlan} {s : List ℕ} {i used total : ℕ} (w : StagedAt column p s i used total) where
+  -- past the last stage there is no item to take
+  pub staged-done : p .stages ≤ i → judgeStages column p s ≡ refused wrongLength 0
+  unfolding stagedFrom stagesFrom
+  staged-done h = let e : p .stages - i ≡ 0 = omega arith in w .walk ∙ rw e
 
-  pub staged-over : takeItems column (s .size) total items ≡ over
-      → stagedFrom column half (s ∷ ss) at total items ≡ refused illegalItem 0
-  unfolding stagedFrom
-  staged-over e = rw e
+  module _ (more : i < p .stages) {size : ℕ} (is : size ≡ getD (p .sizes) i 0) where
+    stage-next : p .stages - i ≡ suc (p .stages - (i + 1))
+    stage-next = omega arith
 
-  pub staged-taken : {t : ℕ} {rest : List ℕ} → takeItems column (s .size) total items ≡ taken t rest
-      → stagedFrom column half (s ∷ ss) at total items
-      ≡ decided (stageDecides s t) (λ accepted. ended half rest (stagedVerdict (further at s) t accepted))
-      (stagedFrom column half ss (further at s) t rest)
-  unfolding stagedFrom
-  staged-taken e = rw e
+    pub staged-missing : takeItems column size total (drop used (numbersOf s)) ≡ missing
+        → judgeStages column p s ≡ refused wrongLength 0
+    unfolding stagedFrom stagesFrom
+    staged-missing e = w .walk ∙ rw (stage-next, ← is, e)
 
--- past the last stage there is no item to take
-pub staged-none : (column : ℕ) (half : Bool) (at : Standing) (total : ℕ) (items : List ℕ)
-    → stagedFrom column half [] at total items ≡ refused wrongLength 0
-unfolding stagedFrom
-staged-none column half at total items = refl
+    pub staged-over : takeItems column size total (drop used (numbersOf s)) ≡ over
+        → judgeStages column p s ≡ refused illegalItem 0
+    unfolding stagedFrom stagesFrom
+    staged-over e = w .walk ∙ rw (stage-next, ← is, e)
+
+    module _ {t : ℕ}
+        (took : takeItems column size total (drop used (numbersOf s)) ≡ taken t (drop (used + size) (numbersOf s)))
+      where
+        stage :
+            judgeStages column p s
+            ≡ decided (stageDecides (stageAt p i) t)
+            (λ a.
+            ended (halfLeft s) (drop (used + size) (numbersOf s)) (stagedVerdict (after p (i + 1) (used + size)) t a))
+            (stagedFrom column (halfLeft s) (stagesFrom (p .stages - (i + 1)) (i + 1) p)
+            (after p (i + 1) (used + size)) t
+            (drop (used + size) (numbersOf s)))
+        unfolding stagedFrom stagesFrom
+        stage = w .walk ∙ rw (stage-next, ← is, took, add-one i)
+
+        pub staged-decides : (a : Bool) → stageDecides (stageAt p i) t ≡ says a
+            → judgeStages column p s
+            ≡ ended (halfLeft s) (drop (used + size) (numbersOf s))
+            (stagedVerdict (after p (i + 1) (used + size)) t a)
+        staged-decides a e = stage ∙ rw e (decided-says a _ _)
+
+        pub staged-goes : stageDecides (stageAt p i) t ≡ goesOn → StagedAt column p s (i + 1) (used + size) t
+        staged-goes e = record { walk = stage ∙ rw e }

@@ -22,11 +22,13 @@ pub record StagedPlan : Type 0 where
   pub acs : List ℕ
   pub res : List ℕ
 
+abbrev pub stageAt : StagedPlan → ℕ → Stage
+stageAt p i = record { size = getD (p .sizes) i 0; ac = getD (p .acs) i 0; re = getD (p .res) i 0 }
+
 -- k stages, from the place i on
 unfoldable pub stagesFrom : ℕ → ℕ → StagedPlan → List Stage
 stagesFrom zero i p = []
-stagesFrom (suc k) i p =
-    record { size = getD (p .sizes) i 0; ac = getD (p .acs) i 0; re = getD (p .res) i 0 } ∷ stagesFrom k (suc i) p
+stagesFrom (suc k) i p = stageAt p i ∷ stagesFrom k (suc i) p
 
 abbrev pub stagesOf : StagedPlan → List Stage
 stagesOf p = stagesFrom (p .stages) 0 p

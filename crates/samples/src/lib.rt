@@ -1,0 +1,151 @@
+// Samples judged on a plan that is handed over: 16-bit little-endian items of lent bytes.
+ghost use mathlib.Core.Path.{_≡_};
+ghost use Prim.Native.Nat.{_≤_, _<_};
+ghost use lib.ListN.{length};
+ghost use Rattle.rules.specs.Numbers.{numbersOf};
+ghost use Rattle.rules.specs.Sequential.{onAcceptLine, onRejectLine, itemDecides, judgeSequence};
+ghost use Rattle.rules.specs.Book.{within, _to_, couldHold, sequential};
+ghost use Rattle.rules.specs.Entries.{sequentialEntry, sequentialSample};
+ghost use Rattle.samples.specs.Paper.{decisionPaper, endedAfter, sequentialPaper, paperOf};
+
+pub struct Verdict {
+    pub accepted: bool,
+    pub used: u32,
+    pub total: u64,
+    pub stage: u8,
+    pub stages: u8,
+}
+
+pub enum SampleAnswer {
+    Refused(u8, usize),
+    Given(Verdict),
+}
+
+// What comparing a running total says.
+enum Decision {
+    Decides(bool),
+    GoesOn,
+}
+
+fn wide(x: u16) -> u64
+    ensures { λ r. ⌜ (r ≡ x) × (r < 65536) ⌝ }
+{
+    x as u64
+}
+
+fn in_range(low: u16, high: u16, x: u16) -> bool
+    ensures { λ r. ⌜ r ≡ within (low to high) x ⌝ }
+{
+    if x < low {
+        return false;
+    }
+    x <= high
+}
+
+// A verdict stands where the sample ends at the item that decides.
+fn ended_with(sample: &[u8], v: Verdict) -> SampleAnswer
+    requires { ⌜ v .used ≤ length (numbersOf (now sample)) ⌝ }
+    ensures { λ r. ⌜ paperOf r ≡ endedAfter (now (sample .entry)) v ⌝ }
+{
+    let end = 2 * (v.used as usize);
+    if end < sample.len() {
+        return SampleAnswer::Refused(7, 0);
+    }
+    SampleAnswer::Given(v)
+}
+
+pub struct SequentialPlan {
+    pub ha: u16,
+    pub hr: u16,
+    pub g: u16,
+    pub nt: u16,
+    pub at_nt: u16,
+}
+
+// The two lines, both sides in hundred-thousandths.
+fn on_accept_line(plan: SequentialPlan, n: u64, d: u64) -> bool
+    requires { ⌜ (n < 65536) × (d ≤ 65536) ⌝ }
+    ensures { λ r. ⌜ r ≡ onAcceptLine (sequentialPaper plan) n d ⌝ }
+{
+    let line = (plan.g as u64) * n;
+    100000 * d + 100 * (plan.ha as u64) <= line
+}
+
+fn on_reject_line(plan: SequentialPlan, n: u64, d: u64) -> bool
+    requires { ⌜ (n < 65536) × (d ≤ 65536) ⌝ }
+    ensures { λ r. ⌜ r ≡ onRejectLine (sequentialPaper plan) n d ⌝ }
+{
+    let line = (plan.g as u64) * n;
+    line + 100 * (plan.hr as u64) <= 100000 * d
+}
+
+// Could a sound book hold the plan?
+fn sequential_held(plan: SequentialPlan) -> bool
+    ensures { λ r. ⌜ r ≡ couldHold sequential (sequentialEntry (sequentialPaper plan)) ⌝ }
+{
+    let nt = plan.nt as u64;
+    let at = plan.at_nt as u64;
+    in_range(1, 65535, plan.ha)
+        & in_range(1, 65535, plan.hr)
+        & in_range(1, 60000, plan.g)
+        & in_range(1, 3150, plan.nt)
+        & !on_accept_line(plan, nt, at + 1)
+        & !on_reject_line(plan, nt, at)
+}
+
+// At the last item nt, At alone decides.
+fn item_decides(plan: SequentialPlan, n: u64, d: u64) -> Decision
+    requires { ⌜ (n < 65536) × (d ≤ 65536) ⌝ }
+    ensures { λ r. ⌜ decisionPaper r ≡ itemDecides (sequentialPaper plan) n d ⌝ }
+{
+    if plan.nt as u64 <= n {
+        return Decision::Decides(d <= plan.at_nt as u64);
+    }
+    if on_accept_line(plan, n, d) {
+        return Decision::Decides(true);
+    }
+    if on_reject_line(plan, n, d) {
+        return Decision::Decides(false);
+    }
+    Decision::GoesOn
+}
+
+fn sequential_walk(plan: SequentialPlan, sample: &[u8]) -> SampleAnswer
+    ensures { λ r. ⌜ paperOf r ≡ judgeSequence (sequentialPaper plan) (now (sample .entry)) ⌝ }
+{
+    let have = numbers::count(sample);
+    let mut i = 0;
+    let mut d = 0;
+    while i < have {
+        let x = numbers::number(sample, i);
+        if 1 < x {
+            return SampleAnswer::Refused(8, 0);
+        }
+        d += x;
+        i += 1;
+        match item_decides(plan, i as u64, d) {
+            Decision::Decides(accepted) => {
+                let v = Verdict {
+                    accepted: accepted,
+                    used: i as u32,
+                    total: d,
+                    stage: 1,
+                    stages: 1,
+                };
+                return ended_with(sample, v);
+            }
+            Decision::GoesOn => {}
+        }
+    }
+    SampleAnswer::Refused(7, 0)
+}
+
+// 6, then 7 or 8 as the walk meets it, then the verdict.
+pub fn sequential_sample(plan: SequentialPlan, sample: &[u8]) -> SampleAnswer
+    ensures { λ r. ⌜ paperOf r ≡ sequentialSample (sequentialPaper plan) (now (sample .entry)) ⌝ }
+{
+    if sequential_held(plan) {
+        return sequential_walk(plan, sample);
+    }
+    SampleAnswer::Refused(6, 0)
+}
