@@ -1,15 +1,15 @@
 // Document 01, 'Variables, s method': the verdict on readings, and the screen.
 ghost use mathlib.Core.Path.{_≡_};
-ghost use mathlib.Core.Bool.{true, _&&_};
+ghost use mathlib.Core.Bool.{true};
 ghost use Prim.Native.Nat.{_*_, _≤_};
 ghost use lib.IntN.{pos, _-ℤ_};
 ghost use lib.ListN.{length};
 ghost use Rattle.rules.specs.Refusals.{given};
-ghost use Rattle.rules.specs.Book.{_to_, within};
+ghost use Rattle.rules.specs.Book.{couldHold, variables};
 ghost use Rattle.rules.specs.Variables.{inGauge, margin, spread, withinSpread};
 ghost use Rattle.rules.specs.Screen.{quotient, shownOf};
 ghost use Rattle.rules.specs.Screen as screens;
-ghost use Rattle.rules.specs.Entries.{variablesSample};
+ghost use Rattle.rules.specs.Entries.{variablesEntry, variablesSample};
 ghost use Rattle.gauge.specs.Raised.{sumFrom, squaresFrom, Passed};
 ghost use Rattle.gauge.specs.Paper.{planOf, paperOf, shownOn};
 
@@ -91,7 +91,7 @@ fn sum_up(s: &[u8]) -> Sums
 }
 
 fn could_hold(n: u64, k: u64) -> bool
-    ensures { λ r. ⌜ r ≡ (within (2 to 50) n && within (1 to 4000) k) ⌝ }
+    ensures { λ r. ⌜ r ≡ couldHold variables (variablesEntry (record { n = n; k = k })) ⌝ }
 {
     if n < 2 {
         return false;
@@ -127,7 +127,7 @@ fn passes(n: u64, k: u64, high: u64, low: u64, t: u64, q: u64) -> bool
     ensures { λ r. ⌜ r ≡ withinSpread n k (pos high -ℤ pos low) (spread n (sumFrom n t) (squaresFrom n t q)) ⌝ }
 {
     if high < low {
-        return false;
+        return false; // a negative margin, which its square would hide
     }
     let d = square(high - low);
     let tt = square(t);

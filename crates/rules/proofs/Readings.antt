@@ -1,45 +1,23 @@
--- The s method and the screen: the plans that a book could hold, the sums of one reading more, each test in natural
--- numbers, where an integer is a difference of two, and each answer.
+-- The s method and the screen: the sums of one reading more, each test in natural numbers, where an integer is a
+-- difference of two, and each answer.
 -- Assumes nothing.
 use Prim.Native.Nat.{ℕ, _+_, _*_, _-_, _/_, _%_, _≤_, _<_}
 use mathlib.Core.Path.{_≡_, refl, sym, _∙_}
-use mathlib.Core.Bool.{Bool, true, false, cond, _&&_}
+use mathlib.Core.Bool.{Bool, true, false, _&&_}
 use mathlib.Core.List.{List, [], _∷_, _++_}
 use native.Mathlib.Nat.{mul-add, mul-comm, mul-left-comm, mul-assoc}
 use native.Mathlib.Omega.{arith}
-use borrow.Author.Tests.{leb-true, le-leb, lt-leb, lt-ltb, le-ltb, eq-eqb, ne-eqb}
+use borrow.Author.Tests.{le-leb, lt-leb, lt-ltb, le-ltb, eq-eqb, ne-eqb}
 use lib.Dec.{leb}
 use lib.IntN.{ℤ, pos, negsuc, _+ℤ_, _*ℤ_, +ℤ-idl, +ℤ-idr, +ℤ-assoc}
 use lib.ListN.{length}
 use Rattle.rules.specs.Refusals.{refused, given, noPlan, wrongLength, outOfRange}
-use Rattle.rules.specs.Book.{ends, broken, isEnd, couldHold, numbersFrom, right, within, _to_, variables}
+use Rattle.rules.specs.Book.{couldHold, variables}
 use Rattle.rules.specs.Variables.{inGauge, allInGauge, readingsOf, sumZ, squaresZ, spread, margin}
 use Rattle.rules.specs.Variables.{withinSpread, acceptsReadings, judgeReadings}
 use Rattle.rules.specs.Screen.{shownOf, screen}
-use Rattle.rules.specs.Entries.{variablesSample}
+use Rattle.rules.specs.Entries.{variablesEntry, variablesSample}
 use Rattle.rules.proofs.Diff.{Diff, move, diff-pos, diff-minus, diff-mul, diff-le, diff-unique, leb-same}
-
-held-by : (a b : Bool) → isEnd (cond (a && true) (cond (b && true) (ends 5) (broken 4)) (broken 3)) ≡ (a && b)
-held-by true true = refl
-held-by true false = refl
-held-by false b = refl
-
-pub variables-held : (n k : ℕ)
-    → couldHold variables (0 ∷ 0 ∷ 0 ∷ n ∷ k ∷ []) ≡ (within (2 to 50) n && within (1 to 4000) k)
-unfolding couldHold numbersFrom right
-variables-held n k = held-by (within (2 to 50) n) (within (1 to 4000) k)
-
-both-true : (a b : Bool) → (a && b) ≡ true → (a ≡ true) × (b ≡ true)
-both-true true b e = (refl, e)
-both-true false b e = (e, cc)
-
-pub held-bounds : (n k : ℕ) → (within (2 to 50) n && within (1 to 4000) k) ≡ true
-    → (2 ≤ n) × (n ≤ 50) × (k ≤ 4000)
-held-bounds n k e =
-    let s = both-true (within (2 to 50) n) (within (1 to 4000) k) e in
-    let p = both-true (leb 2 n) (leb n 50) (s .0) in
-    let q = both-true (leb 1 k) (leb k 4000) (s .1) in
-    (leb-true 2 n (p .0), leb-true n 50 (p .1), leb-true k 4000 (q .1))
 
 pub sum-snoc : (xs : List ℤ) (x : ℤ) → sumZ (xs ++ x ∷ []) ≡ sumZ xs +ℤ x
 unfolding sumZ
@@ -105,16 +83,16 @@ module _ (n k high low a b : ℕ) (m v : ℤ) (hm : Diff m high low) where
 
 -- each answer on a sample, by what is known where it is given
 module _ (upper : Bool) (n k : ℕ) (limit : ℤ) (bytes : List ℕ) where
-  pub sample-unheld : (within (2 to 50) n && within (1 to 4000) k) ≡ false
+  pub sample-unheld : couldHold variables (variablesEntry (record { n = n; k = k })) ≡ false
       → variablesSample upper (record { n = n; k = k }) limit bytes ≡ refused noPlan 0
   unfolding variablesSample
-  sample-unheld h = rw (variables-held n k, h) refl
+  sample-unheld h = rw h refl
 
-  module _ (h : (within (2 to 50) n && within (1 to 4000) k) ≡ true) where
+  module _ (h : couldHold variables (variablesEntry (record { n = n; k = k })) ≡ true) where
     on-plan : variablesSample upper (record { n = n; k = k }) limit bytes
         ≡ judgeReadings upper (record { n = n; k = k }) limit bytes
     unfolding variablesSample
-    on-plan = rw (variables-held n k, h) refl
+    on-plan = rw h refl
 
     pub sample-length : (length bytes ≡ 2 * n → ⊥)
         → variablesSample upper (record { n = n; k = k }) limit bytes ≡ refused wrongLength 0

@@ -7,24 +7,24 @@ use Rattle.gauge.proofs.FromSums.{upper-from, lower-from}
 use Rattle.gauge.proofs.accepts.Statement.{statement}
 use Rattle.gauge.proofs.accepts.Tie as tie
 
+returns : tie.Need-returns
+returns c =
+    let a = c .before .before .args in
+    rw (c .before .if1 .taken, upper-from (a .n) (a .t) (a .limit)) (c .passes .ensures)
+
+returns-2 : tie.Need-returns-2
+returns-2 c =
+    let a = c .before .before .args in
+    rw (c .before .if1 .left, lower-from (a .n) (a .t) (a .limit)) (c .passes2 .ensures)
+
 mul-at-limit : tie.Need-mul-at-limit
 mul-at-limit c = omega (arith, mul-le-mul (c .pre .1) (c .pre .3))
 
 passes-requires : tie.Need-passes-requires
 passes-requires c κs = omega (arith, mul-le-mul (c .before .pre .1) (c .before .pre .3))
 
-returns : tie.Need-returns
-returns c =
-    let a = c .before .before .args in
-    rw (c .before .if1 .taken, upper-from (a .n) (a .t) (a .limit)) (c .passes .ensures)
-
 passes-requires-2 : tie.Need-passes-requires-2
 passes-requires-2 c κs = search needs
-
-returns-2 : tie.Need-returns-2
-returns-2 c =
-    let a = c .before .before .args in
-    rw (c .before .if1 .left, lower-from (a .n) (a .t) (a .limit)) (c .passes2 .ensures)
 
 pub accepts-spec : {M : Type 1} → statement M
 accepts-spec =

@@ -10,8 +10,10 @@ use mir.ValLaws.{toZ-ofZ}
 use lib.ListN.{length}
 use Rattle.rules.specs.Variables.{inGauge}
 use Rattle.rules.specs.Refusals.{given}
-use Rattle.rules.proofs.Readings.{held-bounds, sample-unheld, sample-length, sample-reading, sample-limit}
+use Rattle.rules.proofs.HeldPlans.{variables-right}
+use Rattle.rules.proofs.Readings.{sample-unheld, sample-length, sample-reading, sample-limit}
 use Rattle.rules.proofs.Readings.{sample-judged}
+use Rattle.gauge.specs.Paper.{planOf}
 use Rattle.gauge.proofs.FromSums.{accepted-from}
 use Rattle.gauge.proofs.judge_readings.Statement.{statement}
 use Rattle.gauge.proofs.judge_readings.Tie as tie
@@ -40,7 +42,7 @@ sum-up-requires : tie.Need-sum-up-requires
 sum-up-requires c κs =
     let p = c .before .before .before .before .before .before .args .plan in
     let h = sym (c .before .before .could-hold .ensures) ∙ not-false _ (c .before .if1 .left) in
-    omega (arith, held-bounds (p .n) (p .k) h)
+    omega (arith, variables-right (planOf p) h)
 
 returns-3 : tie.Need-returns-3
 returns-3 c =
@@ -72,8 +74,8 @@ accepts-requires c κs =
     let p = e .before .before .before .before .before .before .args .plan in
     let h = sym (e .before .before .could-hold .ensures) ∙ not-false _ (e .before .if1 .left) in
     let s = c .before .before .before .before .before .sum-up .ensures in
-    let b = held-bounds (p .n) (p .k) h in
-    (omega arith, b .1, b .2, c .raised .ensures .1, s .small-t, s .small-q)
+    let b = variables-right (planOf p) h in
+    (omega arith, b .fifty, b .high, c .raised .ensures .1, s .small-t, s .small-q)
 
 returns-5 : tie.Need-returns-5
 returns-5 c =

@@ -18,6 +18,12 @@ returns c =
     let a = c .before .args in
     sym (rejected-by (a .n) (a .k) (a .high) (a .low) 0 0 _ _ (diff-of _ _) (c .if1 .taken))
 
+returns-2 : tie.Need-returns-2
+returns-2 c =
+    let a = c .before .before .before .args in
+    rw (c .before .square .ensures .0, c .square2 .ensures .0)
+    (sym (weighed-from (a .n) (a .t) (a .k) (a .high) (a .low) (a .q) (c .before .before .if1 .left)))
+
 square-requires : tie.Need-square-requires
 square-requires c κs = search needs
 
@@ -57,12 +63,6 @@ mul-result-5 c = omega (arith, bounds c)
 
 add-result : tie.Need-add-result
 add-result c = omega (arith, bounds c)
-
-returns-2 : tie.Need-returns-2
-returns-2 c =
-    let a = c .before .before .before .args in
-    rw (c .before .square .ensures .0, c .square2 .ensures .0)
-    (sym (weighed-from (a .n) (a .t) (a .k) (a .high) (a .low) (a .q) (c .before .before .if1 .left)))
 
 pub passes-spec : {M : Type 1} → statement M
 passes-spec =

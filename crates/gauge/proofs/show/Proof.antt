@@ -12,15 +12,22 @@ use Rattle.gauge.proofs.FromSums.{spread-from}
 use Rattle.gauge.proofs.show.Statement.{statement}
 use Rattle.gauge.proofs.show.Tie as tie
 
+returns : tie.Need-returns
+unfolding shownOf
+returns c = rw (eq-eqb _ _ (c .if1 .taken)) (ap (λ m. given (mean m)) (c .before .ratio .ensures))
+
+returns-2 : tie.Need-returns-2
+unfolding shownOf
+returns-2 c =
+    let a = c .before .before .before .before .args in
+    rw (ne-eqb _ _ (c .before .before .if1 .left), spread-from (a .n) (a .t) (a .q))
+    (rw (c .before .before .before .ratio .ensures, c .ratio2 .ensures, c .before .square .ensures .0) refl)
+
 mul-ratio : tie.Need-mul-ratio
 mul-ratio c = search needs
 
 ratio-requires : tie.Need-ratio-requires
 ratio-requires c κs = search needs
-
-returns : tie.Need-returns
-unfolding shownOf
-returns c = rw (eq-eqb _ _ (c .if1 .taken)) (ap (λ m. given (mean m)) (c .before .ratio .ensures))
 
 mul-ratio-2 : tie.Need-mul-ratio-2
 mul-ratio-2 c = omega (arith, mul-le-mul (c .before .before .pre .1) (c .before .before .pre .3))
@@ -41,13 +48,6 @@ ratio-requires-2 c κs =
     let p = c .before .before .before .pre in
     let g : c .before .before .before .args .n - 1 ≤ 49 = omega arith in
     omega (arith, mul-le-mul (p .1) g, mul-le-mul (p .1) (p .3))
-
-returns-2 : tie.Need-returns-2
-unfolding shownOf
-returns-2 c =
-    let a = c .before .before .before .before .args in
-    rw (ne-eqb _ _ (c .before .before .if1 .left), spread-from (a .n) (a .t) (a .q))
-    (rw (c .before .before .before .ratio .ensures, c .ratio2 .ensures, c .before .square .ensures .0) refl)
 
 pub show-spec : {M : Type 1} → statement M
 show-spec =
