@@ -30,7 +30,7 @@ float-small (negsuc n) h = lt→ltb n (2 ^ 53) (omega arith)
 pub float-nat : (n : ℕ) → n ≤ 10000000000 → T (inFloat binary64 (pos n))
 float-nat n h = float-small (pos n) h
 
-pub same : (a : ℕ) → a ≤ 10000000000 → toZ w64 a ≡ pos a
+same : (a : ℕ) → a ≤ 10000000000 → toZ w64 a ≡ pos a
 same a h = toZ-ofZ w64 (pos a) (fits-small (pos a) h)
 
 module _ (a b : ℕ) (p : a ≤ 10000000000) (q : b ≤ 10000000000) where

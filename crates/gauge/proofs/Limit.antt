@@ -2,7 +2,7 @@
 -- Assumes nothing.
 use Prim.Native.Nat.{suc, _+_, _-_, _≤_}
 use mathlib.Core.Path.{_≡_, refl}
-use mathlib.Core.Bool.{Bool, true, false, _&&_}
+use mathlib.Core.Bool.{true, false}
 use native.Mathlib.Omega.{arith}
 use borrow.Author.Tests.{ltb-true, ltb-false, leb-true, le-ltb, le-leb, lt-leb}
 use lib.Dec.{T, leb}
@@ -12,6 +12,7 @@ use mir.Syntax.{w32}
 use mir.Val.{SFits}
 use Rattle.rules.specs.Variables.{inGauge}
 use Rattle.rules.proofs.Diff.{as-difference}
+use Rattle.rules.proofs.Bools.{and-left}
 
 pub below : (z : ℤ) → ltZ z (negsuc 999) ≡ true → false ≡ inGauge z
 unfolding inGauge
@@ -30,10 +31,6 @@ pub record Raised (z y : ℤ) : Type 0 where
   pub small : natAbs y ≤ 2000
   pub back : z ≡ pos (natAbs y) -ℤ pos 1000
 
-and-true : (b : Bool) → (b && true) ≡ true → b ≡ true
-and-true true e = refl
-and-true false e = e
-
 pub raise : (z : ℤ) → inGauge z ≡ true → Raised z (z +ℤ pos 1000)
 unfolding inGauge
 raise (pos n) e =
@@ -45,7 +42,7 @@ raise (pos n) e =
       back = as-difference {a = n + 1000} {b = 1000} (omega arith);
     }
 raise (negsuc n) e =
-    let l : n ≤ 999 = leb-true n 999 (and-true (leb n 999) e) in
+    let l : n ≤ 999 = leb-true n 999 (and-left (leb n 999) true e) in
     rw (le-ltb 1000 (suc n) (omega arith))
     (record {
       fits = omega arith;
