@@ -1,4 +1,4 @@
--- The s method: equality accepts, equal readings need only the first part, and a negative margin never accepts; the
+-- The s method: a negative margin never accepts, equality accepts, and equal readings need only the first part; the
 -- screen shows a single reading's mean alone; a reading out of range by its place.
 -- Assumes nothing.
 use Prim.Native.Nat.{ℕ, zero, suc, _+_, _*_, _-_, _≤_, _<_, suc-le-suc}
@@ -17,6 +17,11 @@ use Rattle.rules.specs.Variables.{acceptsReadings}
 use Rattle.rules.specs.Screen.{mean, meanAndVariance, quotient, shownOf}
 use Rattle.rules.proofs.Diff.{Diff, move, diff-pos, diff-add, diff-minus, diff-mul, diff-unique}
 
+-- A negative margin never accepts, however large its square.
+pub negative-rejects : (n k m : ℕ) (v : ℤ) → withinSpread n k (negsuc m) v ≡ false
+unfolding withinSpread
+negative-rejects n k m v = refl
+
 le-self : (z : ℤ) → leZ z z ≡ true
 le-self (pos a) = le-leb a a (le-refl a)
 le-self (negsuc a) = le-leb a a (le-refl a)
@@ -26,11 +31,6 @@ pub equality-accepts : (n k : ℕ) (m v : ℤ) → leZ (pos 0) m ≡ true
     → pos (k * k * n) *ℤ v ≡ pos 1000000 *ℤ (m *ℤ m) *ℤ pos (n - 1) → withinSpread n k m v ≡ true
 unfolding withinSpread
 equality-accepts n k m v h e = rw (h, e) (le-self (pos 1000000 *ℤ (m *ℤ m) *ℤ pos (n - 1)))
-
--- A negative margin never accepts, however large its square.
-pub negative-rejects : (n k m : ℕ) (v : ℤ) → withinSpread n k (negsuc m) v ≡ false
-unfolding withinSpread
-negative-rejects n k m v = refl
 
 -- Equal readings have no spread ..
 same-sum : (n : ℕ) {x : ℤ} {a b : ℕ} → Diff x a b → Diff (sumZ (replicate n x)) (n * a) (n * b)

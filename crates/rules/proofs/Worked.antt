@@ -1,5 +1,5 @@
--- Document 01, 'Worked at the edges': the starred cases together, as one list under one claim, of the definitions;
--- then lotlog's whole listing.
+-- Document 01, 'Worked at the edges': the starred cases together, as one list under one claim, of the definitions; the
+-- other cases, and edges beside them, as a second list; then lotlog's whole listing, and one of its edges.
 -- Assumes nothing.
 use Prim.Native.Nat.{ℕ, zero, suc}
 use mathlib.Core.Path.{_≡_, refl}
@@ -12,8 +12,11 @@ use Rattle.rules.specs.Ascii.{ascii}
 use Rattle.rules.specs.Codes.{normal, tightened, letterOf, rowOf, rowFrom}
 use Rattle.rules.specs.Verdict.{Verdict, Decision, accepts, rejects, goesOn}
 use Rattle.rules.specs.Single.{Landing, Plan, landingOf, landing, boxAt, sizes, tablePlan, tighterAc}
-use Rattle.rules.specs.Sequential.{SequentialPlan, sequentialFrom, itemDecides}
-use Rattle.rules.specs.Variables.{acceptsReadings, withinSpread, margin, spread, sumZ, squaresZ}
+use Rattle.rules.specs.Sequential.{SequentialPlan, sequentialFrom, itemDecides, judgeSequence}
+use Rattle.rules.specs.Numbers.{numbersOf, signedOf}
+use Rattle.rules.specs.Staged.{StagedPlan, mark, stagesFrom, stageDecides, takeItems, stagedFrom, judgeStages}
+use Rattle.rules.specs.Screen.{Shown, mean, meanAndVariance, shownOf, screen}
+use Rattle.rules.specs.Variables.{acceptsReadings, withinSpread, margin, spread, sumZ, squaresZ, inGauge, allInGauge}
 use Rattle.rules.specs.Severity.{onLot, onResubmitted, onOrder, onCorrective, step, figuresInRange}
 use Rattle.rules.specs.Reading.{severityRead, stayAfter, steadyIn, permissionIn, notAcceptedIn, runOf}
 use Rattle.rules.specs.Reading.{pointsOf, readLot, readOrder, readEvent}
@@ -115,6 +118,90 @@ unfolding computed said landedAt yesNo verdictOf decisionOf sequence readings en
     permissionIn notAcceptedIn runOf pointsOf readLot readOrder readEvent past eventIn eventOf
 starred = refl
 
+-- stages of 3 with (#,2)(0,3)(0,3)(1,3)(3,4)
+fiveStages : StagedPlan
+fiveStages =
+    record {
+      stages = 5;
+      sizes = 3 ∷ 3 ∷ 3 ∷ 3 ∷ 3 ∷ 0 ∷ 0 ∷ [];
+      acs = mark ∷ 0 ∷ 0 ∷ 1 ∷ 3 ∷ 0 ∷ 0 ∷ [];
+      res = 2 ∷ 3 ∷ 3 ∷ 3 ∷ 4 ∷ 0 ∷ 0 ∷ [];
+    }
+
+-- items, each 0 or 1, as a sample's bytes
+bytesOf : List ℕ → List ℕ
+bytesOf [] = []
+bytesOf (x ∷ xs) = x ∷ 0 ∷ bytesOf xs
+
+staged : List ℕ → List ℕ
+staged items = verdictOf (judgeStages 10 fiveStages (bytesOf items))
+
+-- both lines met exactly: hA 1, g 0.1, so that 10 clean items stand on the first; hR 1.8, so that 2 bad ones stand on
+-- the second
+onTheLines : SequentialPlan
+onTheLines = record { hA = 1000; hR = 1800; g = 10000; nt = 50; atNt = 4 }
+
+planned : Plan → List ℕ
+planned p = p .letter ∷ p .n ∷ p .ac ∷ []
+
+-- a mean alone, or a mean and a variance
+shownAs : Answer Shown → List ℕ
+shownAs (refused n p) = n ∷ []
+shownAs (given (mean m)) = 101 ∷ []
+shownAs (given (meanAndVariance m v)) = 102 ∷ []
+
+pub computedEdges : List (List ℕ)
+computedEdges =
+    planned (tablePlan normal 10 5 5)
+    ∷ staged (replicate 6 0)
+    ∷ staged (1 ∷ 0 ∷ 0 ∷ 1 ∷ 0 ∷ 0 ∷ 0 ∷ 0 ∷ 0 ∷ 0 ∷ 0 ∷ 0 ∷ 1 ∷ 0 ∷ 0 ∷ [])
+    -- at least Re rejects; nothing may follow; a half item; whichever of 7 and 8 is met first
+    ∷ staged (1 ∷ 1 ∷ 0 ∷ [])
+    ∷ staged (replicate 7 0)
+    ∷ verdictOf (judgeStages 10 fiveStages (bytesOf (replicate 6 0) ++ (0 ∷ [])))
+    ∷ staged (2 ∷ [])
+    ∷ staged (replicate 6 0 ++ (2 ∷ []))
+    -- compared exactly
+    ∷ verdictOf (judgeSequence onTheLines (bytesOf (replicate 10 0)))
+    ∷ verdictOf (judgeSequence onTheLines (bytesOf (replicate 9 0)))
+    ∷ verdictOf (judgeSequence onTheLines (bytesOf (1 ∷ 1 ∷ [])))
+    -- the screen: no reading, half a reading, one, two, 51; 1,001
+    ∷ shownAs (screen [])
+    ∷ shownAs (screen (7 ∷ []))
+    ∷ shownAs (screen (7 ∷ 0 ∷ []))
+    ∷ shownAs (screen (7 ∷ 0 ∷ 9 ∷ 0 ∷ []))
+    ∷ shownAs (screen (replicate 102 0))
+    ∷ shownAs (screen (233 ∷ 3 ∷ []))
+    ∷ []
+
+pub saidEdges : List (List ℕ)
+saidEdges =
+    (9 ∷ 10 ∷ 0 ∷ [])
+    ∷ (1 ∷ 6 ∷ [])
+    ∷ (1 ∷ 15 ∷ [])
+    ∷ (0 ∷ 3 ∷ [])
+    ∷ (7 ∷ [])
+    ∷ (7 ∷ [])
+    ∷ (8 ∷ [])
+    ∷ (7 ∷ [])
+    ∷ (1 ∷ 10 ∷ [])
+    ∷ (7 ∷ [])
+    ∷ (0 ∷ 2 ∷ [])
+    ∷ (7 ∷ [])
+    ∷ (7 ∷ [])
+    ∷ (101 ∷ [])
+    ∷ (102 ∷ [])
+    ∷ (7 ∷ [])
+    ∷ (9 ∷ [])
+    ∷ []
+
+-- The cases that are not starred, and edges beside them.
+pub edges : computedEdges ≡ saidEdges
+unfolding computedEdges saidEdges planned staged fiveStages bytesOf onTheLines verdictOf yesNo shownAs tablePlan
+    letterOf rowOf rowFrom landing boxAt judgeStages stagedFrom stagesFrom stageDecides takeItems judgeSequence
+    sequentialFrom itemDecides numbersOf screen shownOf allInGauge inGauge signedOf sumZ squaresZ
+edges = refl
+
 pub input : List ℕ
 input =
     ascii "L 1000 5 10 1\nL 1000 5 10 2\nL 1000 5 10 3\nR 1000 5 10 0\nL 1000 5 10 4\nL 1000 5 10 1\nL 1 5 10 0\nC\n"
@@ -131,3 +218,20 @@ unfolding input output log logFrom loggedAs lineOf splitAt droppingEmptyLast all
     printed next closeTotal judgeTotal plainPlan tablePlan landing boxAt tighterAc letterOf rowOf rowFrom step onLot
     onResubmitted onOrder onCorrective figuresInRange eventIn eventOf lib.Count.ones
 listing = refl
+
+pub otherInput : List ℕ
+otherInput = ascii "S 1\nS 2\nP 1\nL 1000 5 10 01\n\nL 1000 5 10  1\nC 1\nL 1000 5 10 81\nL 1000 5 10 0"
+
+-- Orders; a number over 1, a leading zero, a blank line, two spaces, a field too many; a total over n; the last line
+-- without its newline.
+pub otherOutput : List ℕ
+otherOutput =
+    ascii "no sev let n ac verdict next score\n"
+    ++ ascii "1 order N 0\n2 refused 1\n3 order N 0\n4 refused 1\n5 refused 1\n6 refused 1\n7 refused 1\n8 refused 8\n"
+    ++ ascii "9 N J 80 2 accept N 3\n"
+
+pub other-listing : log ours otherInput ≡ otherOutput
+unfolding otherInput otherOutput log logFrom loggedAs lineOf splitAt droppingEmptyLast allDigits valueFrom isNumber
+    digitsFrom printed next closeTotal judgeTotal plainPlan tablePlan landing boxAt tighterAc letterOf rowOf rowFrom
+    step onLot onResubmitted onOrder onCorrective figuresInRange eventIn eventOf lib.Count.ones
+other-listing = refl
