@@ -15,6 +15,10 @@ pub or-unless : (a b : Bool) → a || b ≡ true → a ≡ false → b ≡ true
 or-unless true b h e = absurd (true≢false e)
 or-unless false b h e = h
 
+pub or-neither : (a b : Bool) → a || b ≡ false → (a ≡ false) × (b ≡ false)
+or-neither true b h = absurd (true≢false h)
+or-neither false b h = (refl, h)
+
 pub true-unless : (b : Bool) → (b ≡ false → ⊥) → b ≡ true
 true-unless true f = refl
 true-unless false f = absurd (f refl)

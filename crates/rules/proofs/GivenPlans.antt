@@ -1,12 +1,12 @@
 -- The plans that entries give: each passes the test of plans handed over, and has what the rules of its section give.
 -- Assumes nothing.
-use Prim.Native.Nat.{ℕ, _≤_, _<_}
+use Prim.Native.Nat.{ℕ, suc, _≤_, _<_}
 use mathlib.Core.Path.{_≡_, refl}
 use mathlib.Core.Bool.{Bool, true, false, _&&_}
 use mathlib.Core.List.{List}
 use native.Mathlib.Omega.{arith}
 use borrow.Author.Tests.{eqb-true, eqb-false}
-use lib.ListN.{length, getD}
+use lib.ListN.{length, getD, take}
 use lib.Dec.{T, leb, eqb, leb→le}
 use Rattle.rules.specs.Refusals.{given}
 use Rattle.rules.specs.Codes.{letterOf, reduced}
@@ -14,10 +14,11 @@ use Rattle.rules.specs.Book.{sound, checkBook, kinds, kindAt}
 use Rattle.rules.specs.Book.{reducedSingles, staged, sequential, variables, stagedOf, sequentialOf}
 use Rattle.rules.specs.Book.{variablesOf, couldHold}
 use Rattle.rules.specs.Book.{keyOf, keyFor}
-use Rattle.rules.specs.Numbers.{numbersOf}
+use Rattle.rules.specs.Numbers.{numbersOf, sumOf}
 use Rattle.rules.specs.Layout.{EntryIn}
 use Rattle.rules.specs.Single.{Plan, sizes, tablePlan, landing, landingOf, boxAt}
-use Rattle.rules.specs.Staged.{StagedPlan}
+use Rattle.rules.specs.Verdict.{goesOn}
+use Rattle.rules.specs.Staged.{StagedPlan, stageAt, stageDecides}
 use Rattle.rules.specs.Sequential.{SequentialPlan}
 use Rattle.rules.specs.Variables.{VariablesPlan}
 use Rattle.rules.specs.Entries.{Asked, stagedPlan, sequentialPlan}
@@ -26,6 +27,7 @@ use Rattle.rules.specs.Entries.{reducedSection, sequentialSection, varia
 use Rattle.rules.specs.Entries.{singleEntry}
 use Rattle.rules.proofs.Bounded.{by-le, all, all-at, all-at₃, both-left, both-right}
 use Rattle.rules.proofs.Tables.{letter-within, landing-letter}
+use Rattle.rules.proofs.Deciding.{sizeOfFirst, never-runs-out}
 use Rattle.rules.proofs.EntryLaws.{Supplies}
 use Rattle.rules.proofs.Demands.Two.{staged-plan-given, sequential-plan-given, variables-plan-given}
 use Rattle.rules.proofs.Demands.Two.{SinglePlanned}
@@ -69,6 +71,13 @@ module _ (q : Asked) (book : List ℕ) where
       let s = staged-plan-given q book p .0 h in
       let k : Held staged (s .entry) = supplied-held stagedSection _ stagedOf q book p (omega arith) s in
       rw (← s .is-plan) (staged-held (s .entry) k, staged-could (s .entry) k)
+
+  -- the last stage decides, so that no sample on such a plan runs past its stages
+  pub staged-in-time : (p : StagedPlan) → stagedPlan q book ≡ given p → (xs : List ℕ)
+      → ((i : ℕ) → i < p .stages → stageDecides (stageAt p i) (sumOf (take (sizeOfFirst (suc i) p) xs)) ≡ goesOn) → ⊥
+  staged-in-time p h =
+      let r = staged-given p h .0 in
+      never-runs-out p (omega (arith, r .few .0)) (r .decides)
 
   pub sequential-given : (p : SequentialPlan) → sequentialPlan q book ≡ given p
       → SequentialRight p × (couldHold sequential (sequentialEntry p) ≡ true)

@@ -3,7 +3,7 @@
 -- Assumes nothing.
 use Prim.Native.Nat.{ℕ, zero, suc, _+_, _≤_, _<_, zero-le, suc-le-suc}
 use mathlib.Core.Path.{_≡_, refl, sym, ap, _∙_}
-use mathlib.Core.Bool.{Bool, true, false, cond, _&&_, _||_, false≢true, or-assoc, or-true}
+use mathlib.Core.Bool.{Bool, true, false, cond, _||_, false≢true, or-assoc, or-true}
 use mathlib.Core.List.{List, [], _∷_, _++_}
 use native.Mathlib.Omega.{arith}
 use native.Mathlib.Nat.{le-of-suc-le-suc}
@@ -13,6 +13,7 @@ use lib.ListN.{length, getD, take, drop, take-append-drop}
 use lib.Seq.{take-add}
 use Rattle.rules.specs.Numbers.{sumOf}
 use Rattle.rules.specs.Codes.{illegal, anyIllegal}
+use Rattle.rules.proofs.Bools.{and-left, and-right, or-neither}
 use Rattle.rules.specs.Staged.{Taken, missing, over, taken, takeItems}
 
 pub sum-append : (xs ys : List ℕ) → sumOf (xs ++ ys) ≡ sumOf xs + sumOf ys
@@ -32,10 +33,6 @@ unfolding anyIllegal
 any-append column [] ys = refl
 any-append column (x ∷ xs) ys =
     rw (any-append column xs ys) (sym (or-assoc (illegal column x) (anyIllegal column xs) (anyIllegal column ys)))
-
-pub or-neither : (a b : Bool) → (a || b) ≡ false → (a ≡ false) × (b ≡ false)
-or-neither true b e = absurd (false≢true (sym e))
-or-neither false b e = (refl, e)
 
 -- Items are all legal exactly where those of both parts are.
 module _ (column : ℕ) where
@@ -62,14 +59,9 @@ pub record IllegalAt (column : ℕ) (xs : List ℕ) : Type 0 where
   pub counts : column ≤ 15
   pub tooMuch : 1 < getD xs place 0
 
-and-both : (a b : Bool) → (a && b) ≡ true → (a ≡ true) × (b ≡ true)
-and-both true b e = (refl, e)
-and-both false b e = absurd (false≢true e)
-
 pub illegal-means : (column x : ℕ) → illegal column x ≡ true → (column ≤ 15) × (1 < x)
 illegal-means column x e =
-    let h = and-both (leb column 15) (ltb 1 x) e in
-    (leb-true column 15 (h .0), ltb-true 1 x (h .1))
+    (leb-true column 15 (and-left (leb column 15) (ltb 1 x) e), ltb-true 1 x (and-right (leb column 15) (ltb 1 x) e))
 
 pub illegal-when : (column x : ℕ) → column ≤ 15 → 1 < x → illegal column x ≡ true
 illegal-when column x c h = rw (le-leb column 15 c, lt-ltb 1 x h)

@@ -19,16 +19,19 @@ use lib.IntN.{ℤ}
 use lib.ListN.{length, getD}
 use Rattle.rules.specs.Refusals.{Answer, refused, given, _gives_, firstOf, andThen}
 use Rattle.rules.specs.Refusals.{illegalItem}
-use Rattle.rules.specs.Refusals.{bufferShort, noPlan, unknownForm}
+use Rattle.rules.specs.Refusals.{bufferShort, noPlan, noSuchColumn, unknownForm}
 use Rattle.rules.specs.Numbers.{numbersOf, halfLeft, sumOf}
-use Rattle.rules.specs.Codes.{reduced, countsItems, anyIllegal}
+use Rattle.rules.specs.Codes.{reduced, countsItems, anyIllegal, letterOf, tableOneLetter}
 use Rattle.rules.specs.Verdict.{Verdict, Judged}
 use Rattle.rules.specs.Single.{Plan, tablePlan, singleVerdict, judgeItems}
 use Rattle.rules.specs.Staged.{StagedPlan, stagesOf, totalSize, judgeStages}
 use Rattle.rules.specs.Sequential.{SequentialPlan, judgeSequence}
+use Rattle.rules.specs.Book.{Kind, reducedSingles, staged, sequential, variables, couldHold}
+use Rattle.rules.specs.Entries.{unlessHeld, singleEntry, stagedEntry, sequentialEntry, variablesEntry}
+use Rattle.rules.specs.Entries.{singleSample, stagedSample, sequentialSample, variablesSample}
 use Rattle.rules.specs.Book.{sound, checkBook, Found, found, nothing, stagedOf, sequentialOf}
 use Rattle.rules.specs.Book.{variablesOf}
-use Rattle.rules.specs.Entries.{Asked, lookedUp, reducedSection, stagedSection, sequentialSection}
+use Rattle.rules.specs.Entries.{Asked, askedLetter, lookedUp, reducedSection, stagedSection, sequentialSection}
 use Rattle.rules.specs.Entries.{variablesSection, fromEntry, reducedPlan, singlePlan, plainPlan, stagedPlan}
 use Rattle.rules.specs.Entries.{sequentialPlan, variablesPlan, judgeSingle, judgeStaged, judgeSequential}
 use Rattle.rules.specs.Entries.{judgeVariables, totalOn, judgeTotal, next, Closed, Offered, askedOn}
@@ -42,10 +45,10 @@ use Rattle.rules.specs.History.{Work, eventIn, placed, afterHistory, lis
 use Rattle.rules.proofs.Histories.{From, from-suc, from-first, from-refused}
 use Rattle.rules.specs.Screen.{Shown, screen, shownOf}
 use Rattle.rules.proofs.Bounded.{by-le}
-use Rattle.rules.proofs.Bools.{and-left, and-right}
+use Rattle.rules.proofs.Bools.{and-left, and-right, or-neither}
 use Rattle.rules.proofs.Answers.{refused-given, given-one, then-given}
 use Rattle.rules.proofs.Checks.{Plannable}
-use Rattle.rules.proofs.Items.{IllegalAt, any-means, any-when, or-neither}
+use Rattle.rules.proofs.Items.{IllegalAt, any-means, any-when}
 use Rattle.rules.proofs.Refusals.{Row, here, later, NoRow, Then, Reports, check, stops, passes, nothing-wrong}
 use Rattle.rules.proofs.Refusals.{chain, seen-from, first-given, last-from, refused-number, refused-place}
 use Rattle.rules.proofs.Deciding.{SampleRows, EndsAtItem, MeetsItem, sequence-decided, sequence-reports}
@@ -55,6 +58,35 @@ use Rattle.rules.proofs.EntryLaws.{fromBook, NoPlan, book-plan-reports,
 use Rattle.rules.proofs.EntryLaws.{two-given, judged-on-book, judged-by, Closes, closing-reports, closing-given}
 use Rattle.rules.proofs.EntryLaws.{closing-on-book, closing-book-given, lot-on}
 use Rattle.rules.proofs.SMethod.{OutAt, out-means, out-when}
+
+-- 0. The letter of a size and level, and of a lot.
+module _ (size level : ℕ) where
+  pub letter-refused : Reports 2 (Row 2 (size < 2) (Row 3 (6 < level) NoRow)) (tableOneLetter size level)
+  unfolding tableOneLetter
+  letter-refused =
+      check 2 (ltb size 2) (ltb-true size 2) (lt-ltb size 2) (omega arith)
+      (check 3 (ltb 6 level) (ltb-true 6 level) (lt-ltb 6 level) (le-refl 3) nothing-wrong)
+
+  pub letter-given : (l : ℕ)
+      → (tableOneLetter size level ≡ given l) ↔ ((2 ≤ size) × (level ≤ 6) × (letterOf size level ≡ l))
+  unfolding tableOneLetter
+  letter-given l =
+      let two = two-given (ltb size 2) (ltb 6 level) 2 3 (letterOf size level) l in (
+        λ g. (ltb-false size 2 (two .0 g .0), ltb-false 6 level (two .0 g .1), two .0 g .2),
+        λ h. two .1 (le-ltb size 2 (h .0), le-ltb 6 level (h .1), h .2),
+      )
+
+module _ (q : Asked) where
+  pub asked-letter-refused : Reports 1 (LotRows q NoRow) (askedLetter q)
+  unfolding askedLetter
+  asked-letter-refused = lot-reports q nothing-wrong
+
+  pub asked-letter-given : (l : ℕ)
+      → (askedLetter q ≡ given l) ↔ (Plannable q × (letterOf (q .size) (q .level) ≡ l))
+  unfolding askedLetter
+  asked-letter-given l =
+      let iff = lot-given q (given (letterOf (q .size) (q .level))) l in
+      (λ g. (iff .0 g .0, given-one (iff .0 g .1)), λ h. iff .1 (h .0, ap given (h .1)))
 
 -- 1. The single plan. 6 under reduced inspection, where the book has no entry under the key.
 module _ (q : Asked) (book : List ℕ) where
@@ -646,7 +678,118 @@ module _ (bytes : List ℕ) where
           × (shownOf (length bytes / 2) (sumZ (readingsOf bytes)) (squaresZ (readingsOf bytes)) ≡ s))
       two = two-given _ _ 7 9 _ s
 
--- 10. The severities of a history: its first bad byte, with its place; then 11 for a buffer shorter than the history.
+-- 10. A sample judged on a plan that is handed over: 6 for one that no sound book could hold, and 4 for a column over
+-- 25
+-- where the column says which items are legal.
+module _ (k : Kind) (e : List ℕ) where
+  abbrev pub HeldRows : (ℕ → Type 0) → ℕ → Type 0
+  HeldRows more = Row 6 (couldHold k e ≡ false) more
+
+  held-reports : {A : Type 0} {more : ℕ → Type 0} {rest : Answer A} → Reports 7 more rest
+      → Reports 6 (HeldRows more) (firstOf (unlessHeld k e ∷ []) rest)
+  held-reports r = check 6 (not (couldHold k e)) (not-true (couldHold k e)) (λ f. ap not f) (omega arith) r
+
+  held-given : {A : Type 0} (rest : Answer A) (x : A)
+      → (firstOf (unlessHeld k e ∷ []) rest ≡ given x) ↔ ((couldHold k e ≡ true) × (rest ≡ given x))
+  held-given rest x =
+      let iff = first-given (unlessHeld k e ∷ []) rest x in
+      (λ g. (not-false (couldHold k e) (iff .0 g .0 .0), iff .0 g .1), λ h. iff .1 ((ap not (h .0), tt), h .1))
+
+column-reports : {A : Type 0} {more : ℕ → Type 0} {rest : Answer A} (column : ℕ) → Reports 6 more rest
+    → Reports 4 (Row 4 (25 < column) more) (cond (ltb 25 column) (refused 4 0) rest)
+column-reports column r = check 4 (ltb 25 column) (ltb-true 25 column) (lt-ltb 25 column) (omega arith) r
+
+column-given : {A : Type 0} (column : ℕ) (rest : Answer A) (x : A)
+    → (cond (ltb 25 column) (refused 4 0) rest ≡ given x) ↔ ((column ≤ 25) × (rest ≡ given x))
+column-given column rest x =
+    let iff = first-given ((ltb 25 column gives noSuchColumn) ∷ []) rest x in
+    (λ g. (ltb-false 25 column (iff .0 g .0 .0), iff .0 g .1), λ h. iff .1 ((le-ltb 25 column (h .0), tt), h .1))
+
+module _ (column : ℕ) (bytes : List ℕ) where
+  pub single-sample-refused : (plan : Plan)
+      → Reports 4 (Row 4 (25 < column) (HeldRows reducedSingles (singleEntry plan) (ItemRows column bytes plan)))
+      (singleSample column plan bytes)
+  unfolding singleSample
+  single-sample-refused plan =
+      column-reports column (held-reports reducedSingles (singleEntry plan) (items-refused column bytes plan))
+
+  pub single-sample-given : (plan : Plan) (v : Verdict)
+      → (singleSample column plan bytes ≡ given v)
+      ↔ ((column ≤ 25) × (couldHold reducedSingles (singleEntry plan) ≡ true) × ItemsJudged column bytes plan v)
+  unfolding singleSample
+  single-sample-given plan v = (
+    λ g.
+        let c = column-given column _ v .0 g in
+        let h = held-given reducedSingles (singleEntry plan) _ v .0 (c .1) in
+        (c .0, h .0, items-given column bytes plan v .0 (h .1)),
+    λ s.
+        column-given column _ v .1
+        (s .0, held-given reducedSingles (singleEntry plan) _ v .1 (s .1, items-given column bytes plan v .1 (s .2))),
+  )
+
+  pub staged-sample-refused : (plan : StagedPlan)
+      → Reports 4
+      (Row 4 (25 < column)
+      (HeldRows staged (stagedEntry plan)
+      (SampleRows (EndsAtStage column plan bytes) (MeetsInStage column plan bytes))))
+      (stagedSample column plan bytes)
+  unfolding stagedSample
+  staged-sample-refused plan =
+      column-reports column (held-reports staged (stagedEntry plan) (stages-report column plan bytes))
+
+  pub staged-sample-given : (plan : StagedPlan) (v : Verdict)
+      → (stagedSample column plan bytes ≡ given v)
+      ↔ ((column ≤ 25) × (couldHold staged (stagedEntry plan) ≡ true) × EndsAtStage column plan bytes v)
+  unfolding stagedSample
+  staged-sample-given plan v = (
+    λ g.
+        let c = column-given column _ v .0 g in
+        let h = held-given staged (stagedEntry plan) _ v .0 (c .1) in
+        (c .0, h .0, stages-decided column plan bytes v .0 (h .1)),
+    λ s.
+        column-given column _ v .1
+        (s .0, held-given staged (stagedEntry plan) _ v .1 (s .1, stages-decided column plan bytes v .1 (s .2))),
+  )
+
+module _ (bytes : List ℕ) where
+  pub sequential-sample-refused : (plan : SequentialPlan)
+      → Reports 6
+      (HeldRows sequential (sequentialEntry plan) (SampleRows (EndsAtItem plan bytes) (MeetsItem plan bytes)))
+      (sequentialSample plan bytes)
+  unfolding sequentialSample
+  sequential-sample-refused plan =
+      held-reports sequential (sequentialEntry plan) (sequence-reports plan bytes)
+
+  pub sequential-sample-given : (plan : SequentialPlan) (v : Verdict)
+      → (sequentialSample plan bytes ≡ given v)
+      ↔ ((couldHold sequential (sequentialEntry plan) ≡ true) × EndsAtItem plan bytes v)
+  unfolding sequentialSample
+  sequential-sample-given plan v = (
+    λ g.
+        let h = held-given sequential (sequentialEntry plan) _ v .0 g in
+        (h .0, sequence-decided plan bytes v .0 (h .1)),
+    λ s. held-given sequential (sequentialEntry plan) _ v .1 (s .0, sequence-decided plan bytes v .1 (s .1)),
+  )
+
+  module _ (upper : Bool) (limit : ℤ) (plan : VariablesPlan) where
+    pub variables-sample-refused :
+        Reports 6 (HeldRows variables (variablesEntry plan) (ReadingRows upper limit bytes plan))
+        (variablesSample upper plan limit bytes)
+    unfolding variablesSample
+    variables-sample-refused = held-reports variables (variablesEntry plan) (readings-refused upper limit bytes plan)
+
+    pub variables-sample-given : (v : Gauged)
+        → (variablesSample upper plan limit bytes ≡ given v)
+        ↔ ((couldHold variables (variablesEntry plan) ≡ true) × ReadingsJudged upper limit bytes plan v)
+    unfolding variablesSample
+    variables-sample-given v = (
+      λ g.
+          let h = held-given variables (variablesEntry plan) _ v .0 g in
+          (h .0, readings-given upper limit bytes plan v .0 (h .1)),
+      λ s. held-given variables (variablesEntry plan) _ v .1 (s .0, readings-given upper limit bytes plan v .1 (s .1)),
+    )
+
+-- 11. The severities of a history: its first bad byte, with its place; then 11 for a buffer shorter than the history.
 placed-refused : {A : Type 0} (at n k : ℕ) (a : Answer A) → placed at a ≡ refused n k
     → (p : ℕ) × (a ≡ refused n p) × (at ≡ k)
 placed-refused at n k (refused m p) e =
