@@ -22,3 +22,7 @@ or-neither false b h = (refl, h)
 pub true-unless : (b : Bool) → (b ≡ false → ⊥) → b ≡ true
 true-unless true f = refl
 true-unless false f = absurd (f refl)
+
+pub false-unless : (b : Bool) → (b ≡ true → ⊥) → b ≡ false
+false-unless true f = absurd (f refl)
+false-unless false f = refl

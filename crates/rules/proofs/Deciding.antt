@@ -1,7 +1,7 @@
 -- Which samples are judged, with no walk in it: a sequential or staged sample has a verdict exactly where its last item
 -- (stage) decides, no earlier one does, all items are legal, and the items used are the sample's length.
 -- Assumes nothing.
-use Prim.Native.Nat.{ℕ, zero, suc, _+_, _-_, _≤_, _<_, suc-le-suc}
+use Prim.Native.Nat.{ℕ, zero, suc, _+_, _-_, _*_, _≤_, _<_, suc-le-suc}
 use mathlib.Core.Path.{_≡_, refl, sym, ap, _∙_}
 use mathlib.Core.Logic.{_↔_, _⊎_, inl, inr}
 use mathlib.Core.Bool.{Bool, true, false, cond}
@@ -23,7 +23,7 @@ use Rattle.rules.specs.Staged.{judgeStages}
 use Rattle.rules.proofs.Parts.{Part, endOf, decidesAt, says, Decides, Say, afterPart, walk, Judged, sound}
 use Rattle.rules.proofs.Parts.{complete}
 use Rattle.rules.proofs.Parts.{Meets, Met, length-wrong, item-illegal, refused-met, meets-refused}
-use Rattle.rules.proofs.Items.{illegal-means, illegal-when}
+use Rattle.rules.proofs.Items.{IllegalAt, illegal-means, illegal-when, all-legal, no-half}
 use Rattle.rules.proofs.Answers.{refused-given}
 use Rattle.rules.proofs.Refusals.{Row, NoRow, Reports, stops, passes, nothing-wrong}
 use Rattle.rules.proofs.Refusals.{refused-number, last-from}
@@ -110,9 +110,9 @@ sequential-walk p half n d (x ∷ xs) part = on (ltb 1 x) (sequential-walk p hal
 -- at
 -- the very item .. that decides."
 pub record EndsAtItem (p : SequentialPlan) (sample : List ℕ) (v : Verdict) : Type 0 where
-  pub whole : halfLeft sample ≡ false
+  pub whole : length sample ≡ 2 * length (numbersOf sample)
   pub some : 0 < length (numbersOf sample)
-  pub legal : anyIllegal 0 (numbersOf sample) ≡ false
+  pub legal : IllegalAt 0 (numbersOf sample) → ⊥
   pub last : itemDecides p (length (numbersOf sample)) (sumOf (numbersOf sample)) ≡ says (v .accepted)
   pub earlier : (i : ℕ) → 0 < i → i < length (numbersOf sample)
       → itemDecides p i (sumOf (take i (numbersOf sample))) ≡ goesOn
@@ -139,9 +139,9 @@ module _ (p : SequentialPlan) (sample : List ℕ) where
       let len : length items ≡ j .at = omega (arith, d .ends, item-end (j .at) among) in
       let same : j .accepted ≡ v .accepted = ap (λ (w : Verdict). w .accepted) (j .verdict) in
       record {
-        whole = j .whole;
+        whole = no-half sample .0 (j .whole);
         some = omega (arith, d .some);
-        legal = d .legal;
+        legal = all-legal 0 items .0 (d .legal);
         last = rw len (sym (at-item (j .at) (sumOf items) (d .some) among) ∙ d .last ∙ ap says same);
         earlier =
             λ i f h.
@@ -158,7 +158,7 @@ module _ (p : SequentialPlan) (sample : List ℕ) where
         some = e .some;
         among = omega (arith, item-count p 0 (suc (length items)));
         ends = sym (item-end (length items) (omega arith));
-        legal = e .legal;
+        legal = all-legal 0 items .1 (e .legal);
         last = at-item (length items) (sumOf items) (e .some) (omega arith) ∙ e .last;
         earlier =
             λ i f h.
@@ -175,7 +175,8 @@ module _ (p : SequentialPlan) (sample : List ℕ) where
     λ g. ends-at v (sound 0 (halfLeft sample) sequentialSay parts 0 0 0 items v (sym as-items ∙ g)),
     λ e.
         as-items
-        ∙ complete 0 (halfLeft sample) sequentialSay parts 0 0 0 items (length items) (v .accepted) (e .whole)
+        ∙ complete 0 (halfLeft sample) sequentialSay parts 0 0 0 items (length items) (v .accepted)
+        (no-half sample .1 (e .whole))
         (judged-at v e)
         ∙ simp zero-add (ap given (e .verdict)),
   )
@@ -293,9 +294,9 @@ pub record EndsAtStage (column : ℕ) (plan : StagedPlan) (sample : List ℕ) (v
   -- the stages before the one that decides
   pub done : ℕ
   pub among : done < plan .stages
-  pub whole : halfLeft sample ≡ false
+  pub whole : length sample ≡ 2 * length (numbersOf sample)
   pub ends : length (numbersOf sample) ≡ sizeOfFirst (suc done) plan
-  pub legal : anyIllegal column (numbersOf sample) ≡ false
+  pub legal : IllegalAt column (numbersOf sample) → ⊥
   pub last : stageDecides (stageAt plan done) (sumOf (numbersOf sample)) ≡ says (v .accepted)
   pub earlier : (i : ℕ) → i < done
       → stageDecides (stageAt plan i) (sumOf (take (sizeOfFirst (suc i) plan) (numbersOf sample))) ≡ goesOn
@@ -337,9 +338,9 @@ module _ (column : ℕ) (plan : StagedPlan) (sample : List ℕ) where
           record {
             done = at;
             among = among;
-            whole = j .whole;
+            whole = no-half sample .0 (j .whole);
             ends = d .ends ∙ stage-end (suc at) among;
-            legal = d .legal;
+            legal = all-legal column itemsOf .0 (d .legal);
             last = sym (at-stage at (sumOf itemsOf) among) ∙ d .last ∙ ap says same;
             earlier =
                 λ i h.
@@ -357,7 +358,7 @@ module _ (column : ℕ) (plan : StagedPlan) (sample : List ℕ) where
         some = omega arith;
         among = omega (arith, stage-count (plan .stages) 0 plan, e .among);
         ends = e .ends ∙ sym (stage-end (suc (e .done)) (e .among));
-        legal = e .legal;
+        legal = all-legal column itemsOf .1 (e .legal);
         last = at-stage (e .done) (sumOf itemsOf) (e .among) ∙ e .last;
         earlier = before;
       }
@@ -385,7 +386,7 @@ module _ (column : ℕ) (plan : StagedPlan) (sample : List ℕ) where
         as-stages
         ∙ complete column (halfLeft sample) (stagedSay (plan .stages)) stageParts 0 0 0 itemsOf (suc (e .done))
         (v .accepted)
-        (e .whole) (stage-judged v e)
+        (no-half sample .1 (e .whole)) (stage-judged v e)
         ∙ simp zero-add (ap given (e .verdict)),
   )
 

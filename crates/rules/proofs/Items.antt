@@ -1,19 +1,21 @@
 -- The items of a sample: their sum and whether they are legal, in parts; an illegal item by its place; and what taking
 -- some of them comes to.
 -- Assumes nothing.
-use Prim.Native.Nat.{ℕ, zero, suc, _+_, _≤_, _<_, zero-le, suc-le-suc}
+use Prim.Native.Nat.{ℕ, zero, suc, _+_, _*_, _%_, _≤_, _<_, zero-le, suc-le-suc}
 use mathlib.Core.Path.{_≡_, refl, sym, ap, _∙_}
+use mathlib.Core.Logic.{_↔_}
 use mathlib.Core.Bool.{Bool, true, false, cond, _||_, false≢true, or-assoc, or-true}
 use mathlib.Core.List.{List, [], _∷_, _++_}
 use native.Mathlib.Omega.{arith}
 use native.Mathlib.Nat.{le-of-suc-le-suc}
-use borrow.Author.Tests.{ltb-true, lt-ltb, leb-true, le-leb}
+use borrow.Author.Tests.{ltb-true, lt-ltb, leb-true, le-leb, eqb-false, ne-eqb}
 use lib.Dec.{leb, ltb}
 use lib.ListN.{length, getD, take, drop, take-append-drop}
 use lib.Seq.{take-add}
-use Rattle.rules.specs.Numbers.{sumOf}
+use Rattle.rules.specs.Numbers.{numbersOf, halfLeft, sumOf}
 use Rattle.rules.specs.Codes.{illegal, anyIllegal}
-use Rattle.rules.proofs.Bools.{and-left, and-right, or-neither}
+use Rattle.rules.proofs.Bools.{and-left, and-right, or-neither, false-unless}
+use Rattle.rules.proofs.Numbers.{numbers-low, numbers-high}
 use Rattle.rules.specs.Staged.{Taken, missing, over, taken, takeItems}
 
 pub sum-append : (xs ys : List ℕ) → sumOf (xs ++ ys) ≡ sumOf xs + sumOf ys
@@ -94,6 +96,22 @@ any-at column (x ∷ xs) (suc k) h c t =
 
 pub any-when : (column : ℕ) (xs : List ℕ) → IllegalAt column xs → anyIllegal column xs ≡ true
 any-when column xs i = any-at column xs (i .place) (i .there) (i .counts) (i .tooMuch)
+
+-- No item is over 1 where items are 0 or 1.
+pub all-legal : (column : ℕ) (xs : List ℕ) → (anyIllegal column xs ≡ false) ↔ (IllegalAt column xs → ⊥)
+all-legal column xs = (
+  λ e i. false≢true (sym e ∙ any-when column xs i),
+  λ none. false-unless (anyIllegal column xs) (λ e. none (any-means column xs e)),
+)
+
+-- A sample has no half item exactly where its bytes are twice its items.
+pub no-half : (s : List ℕ) → (halfLeft s ≡ false) ↔ (length s ≡ 2 * length (numbersOf s))
+no-half s = (
+  λ e.
+      let h : length s % 2 ≡ 1 → ⊥ = eqb-false (length s % 2) 1 e in
+      omega (arith, numbers-low s, numbers-high s),
+  λ e. ne-eqb (length s % 2) 1 (λ h. omega arith),
+)
 
 -- Taking k items of xs onto a total: one is missing, one is over, or they are all there and legal.
 pub data Takes (column k total : ℕ) (xs : List ℕ) : Taken → Type 0 where

@@ -2,7 +2,8 @@
 -- screen shows a single reading's mean alone; a reading out of range by its place.
 -- Assumes nothing.
 use Prim.Native.Nat.{ℕ, zero, suc, _+_, _*_, _-_, _≤_, _<_, suc-le-suc}
-use mathlib.Core.Path.{_≡_, refl, sym}
+use mathlib.Core.Path.{_≡_, refl, sym, _∙_}
+use mathlib.Core.Logic.{_↔_}
 use mathlib.Core.Bool.{Bool, true, false, _&&_, false≢true, and-true, and-false}
 use mathlib.Core.List.{List, [], _∷_}
 use native.Mathlib.Nat.{mul-add, mul-assoc, mul-left-comm, le-refl, le-of-suc-le-suc, suc-mul}
@@ -15,6 +16,7 @@ use Rattle.rules.specs.Variables.{VariablesPlan, inGauge, allInGauge, su
 use Rattle.rules.specs.Variables.{withinSpread}
 use Rattle.rules.specs.Variables.{acceptsReadings}
 use Rattle.rules.specs.Screen.{mean, meanAndVariance, quotient, shownOf}
+use Rattle.rules.proofs.Bools.{true-unless}
 use Rattle.rules.proofs.Diff.{Diff, move, diff-pos, diff-add, diff-minus, diff-mul, diff-unique}
 
 -- A negative margin never accepts, however large its square.
@@ -111,3 +113,8 @@ out-at (x ∷ xs) (suc k) h o = rw (out-at xs k (le-of-suc-le-suc h) o) (and-fal
 
 pub out-when : (xs : List ℤ) → OutAt xs → allInGauge xs ≡ false
 out-when xs o = out-at xs (o .place) (o .there) (o .out)
+
+-- No reading is out of range.
+pub all-in : (xs : List ℤ) → (allInGauge xs ≡ true) ↔ (OutAt xs → ⊥)
+all-in xs =
+    (λ e o. false≢true (sym (out-when xs o) ∙ e), λ none. true-unless (allInGauge xs) (λ e. none (out-means xs e)))

@@ -48,7 +48,7 @@ use Rattle.rules.proofs.Bounded.{by-le}
 use Rattle.rules.proofs.Bools.{and-left, and-right, or-neither}
 use Rattle.rules.proofs.Answers.{refused-given, given-one, then-given}
 use Rattle.rules.proofs.Checks.{Plannable}
-use Rattle.rules.proofs.Items.{IllegalAt, any-means, any-when}
+use Rattle.rules.proofs.Items.{IllegalAt, any-means, any-when, all-legal}
 use Rattle.rules.proofs.Refusals.{Row, here, later, NoRow, Then, Reports, check, stops, passes, nothing-wrong}
 use Rattle.rules.proofs.Refusals.{chain, seen-from, first-given, last-from, refused-number, refused-place}
 use Rattle.rules.proofs.Deciding.{SampleRows, EndsAtItem, MeetsItem, sequence-decided, sequence-reports}
@@ -57,7 +57,7 @@ use Rattle.rules.proofs.EntryLaws.{LotRows, lot-reports, lot-passes, lo
 use Rattle.rules.proofs.EntryLaws.{fromBook, NoPlan, book-plan-reports, Supplies, book-plan-given}
 use Rattle.rules.proofs.EntryLaws.{two-given, judged-on-book, judged-by, Closes, closing-reports, closing-given}
 use Rattle.rules.proofs.EntryLaws.{closing-on-book, closing-book-given, lot-on}
-use Rattle.rules.proofs.SMethod.{OutAt, out-means, out-when}
+use Rattle.rules.proofs.SMethod.{OutAt, out-means, out-when, all-in}
 
 -- 0. The letter of a size and level, and of a lot.
 module _ (size level : ℕ) where
@@ -213,7 +213,7 @@ module _ (column : ℕ) (sample : List ℕ) (plan : Plan) where
 
   pub record ItemsJudged (v : Verdict) : Type 0 where
     pub whole : length sample ≡ 2 * plan .n
-    pub legal : anyIllegal column (numbersOf sample) ≡ false
+    pub legal : IllegalAt column (numbersOf sample) → ⊥
     pub verdict : singleVerdict plan (sumOf (numbersOf sample)) ≡ v
 
   pub items-given : (v : Verdict) → (judgeItems column plan sample ≡ given v) ↔ ItemsJudged v
@@ -223,10 +223,15 @@ module _ (column : ℕ) (sample : List ℕ) (plan : Plan) where
         let h = two .0 g in
         record {
           whole = eqb-true (length sample) (2 * plan .n) (not-false (eqb (length sample) (2 * plan .n)) (h .0));
-          legal = h .1;
+          legal = all-legal column (numbersOf sample) .0 (h .1);
           verdict = h .2;
         },
-    λ j. two .1 (ap not (eq-eqb (length sample) (2 * plan .n) (j .whole)), j .legal, j .verdict),
+    λ j. two .1 (
+      ap not (eq-eqb (length sample) (2 * plan .n) (j .whole)),
+      all-legal column (numbersOf sample) .1
+          (j .legal),
+      j .verdict,
+    ),
   )
     where
       two : (judgeItems column plan sample ≡ given v)
@@ -264,7 +269,7 @@ module _ (upper : Bool) (limit : ℤ) (bytes : List ℕ) (plan : VariablesPlan) 
 
   pub record ReadingsJudged (v : Gauged) : Type 0 where
     pub whole : length bytes ≡ 2 * plan .n
-    pub readings-in : allInGauge (readingsOf bytes) ≡ true
+    pub readings-in : OutAt (readingsOf bytes) → ⊥
     pub limit-in : inGauge limit ≡ true
     pub verdict : record { accepted = acceptsReadings upper plan limit (readingsOf bytes); used = plan .n } ≡ v
 
@@ -281,12 +286,17 @@ module _ (upper : Bool) (limit : ℤ) (bytes : List ℕ) (plan : VariablesPlan) 
         let i = in-both (allInGauge (readingsOf bytes)) (inGauge limit) (h .1) in
         record {
           whole = eqb-true (length bytes) (2 * plan .n) (not-false (eqb (length bytes) (2 * plan .n)) (h .0));
-          readings-in = i .0;
+          readings-in = all-in (readingsOf bytes) .0 (i .0);
           limit-in = i .1;
           verdict = h .2;
         },
     λ j.
-        two .1 (ap not (eq-eqb (length bytes) (2 * plan .n) (j .whole)), rw (j .readings-in, j .limit-in), j .verdict),
+        two .1 (
+          ap not (eq-eqb (length bytes) (2 * plan .n) (j .whole)),
+          rw
+              (all-in (readingsOf bytes) .1 (j .readings-in), j .limit-in),
+          j .verdict,
+        ),
   )
     where
       two : (judgeReadings upper plan limit bytes ≡ given v)
@@ -648,7 +658,7 @@ module _ (bytes : List ℕ) where
   pub record Screened (s : Shown) : Type 0 where
     pub count : ℕ
     pub fits-so : Fits count
-    pub readings-in : allInGauge (readingsOf bytes) ≡ true
+    pub readings-in : OutAt (readingsOf bytes) → ⊥
     pub shows : shownOf count (sumZ (readingsOf bytes)) (squaresZ (readingsOf bytes)) ≡ s
 
   pub screen-given : (s : Shown) → (screen bytes ≡ given s) ↔ Screened s
@@ -659,7 +669,7 @@ module _ (bytes : List ℕ) where
         record {
           count = length bytes / 2;
           fits-so = fit-so (h .0);
-          readings-in = not-false (allInGauge (readingsOf bytes)) (h .1);
+          readings-in = all-in (readingsOf bytes) .0 (not-false (allInGauge (readingsOf bytes)) (h .1));
           shows = h .2;
         },
     λ c.
@@ -667,7 +677,7 @@ module _ (bytes : List ℕ) where
         let half : length bytes / 2 ≡ c .count = omega (arith, f .whole) in
         two .1 (
           fits (c .count) (f .some) (f .few) (f .whole),
-          ap not (c .readings-in),
+          ap not (all-in (readingsOf bytes) .1 (c .readings-in)),
           ap (λ (n : ℕ). shownOf n (sumZ (readingsOf bytes)) (squaresZ (readingsOf bytes))) half ∙ c .shows,
         ),
   )
