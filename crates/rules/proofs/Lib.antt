@@ -26,6 +26,7 @@ pub mod Refusals
 pub mod Resubmitted
 pub mod Runs
 pub mod SMethod
+pub mod SampleLaws
 pub mod SampleSteps
 pub mod SectionKinds
 pub mod Slips

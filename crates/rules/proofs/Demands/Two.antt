@@ -7,7 +7,7 @@
 use Prim.Native.Nat.{ℕ, zero, suc, _*_, _%_, _/_, _≤_, _<_}
 use mathlib.Core.Path.{_≡_, refl, sym, ap, subst, _∙_}
 use mathlib.Core.Logic.{_↔_, _⊎_, inl, inr}
-use mathlib.Core.Bool.{Bool, true, false, cond, _&&_, _||_, not, false≢true, or-true}
+use mathlib.Core.Bool.{Bool, true, false, cond, _&&_, _||_, not, false≢true}
 use mathlib.Core.List.{List, [], _∷_}
 use native.Mathlib.Nat.{le-refl, le-trans}
 use native.Mathlib.Omega.{arith}
@@ -20,8 +20,8 @@ use lib.ListN.{length, getD}
 use Rattle.rules.specs.Refusals.{Answer, refused, given, _gives_, firstOf, andThen}
 use Rattle.rules.specs.Refusals.{illegalItem}
 use Rattle.rules.specs.Refusals.{bufferShort, noPlan, noSuchColumn, unknownForm}
-use Rattle.rules.specs.Numbers.{numbersOf, halfLeft, sumOf}
-use Rattle.rules.specs.Codes.{reduced, countsItems, anyIllegal, letterOf, tableOneLetter}
+use Rattle.rules.specs.Numbers.{halfLeft}
+use Rattle.rules.specs.Codes.{reduced, countsItems, letterOf, tableOneLetter}
 use Rattle.rules.specs.Verdict.{Verdict, Judged}
 use Rattle.rules.specs.Single.{Plan, tablePlan, singleVerdict, judgeItems}
 use Rattle.rules.specs.Staged.{StagedPlan, stagesOf, totalSize, judgeStages}
@@ -39,7 +39,7 @@ use Rattle.rules.specs.Entries.{singleCounts, stagedCounts, closeSingle,
 use Rattle.rules.specs.Severity.{Lot, Event, lot, resubmitted, corrective, unknown, steadyIs}
 use Rattle.rules.specs.Severity.{permissionIs, Record, fresh, step}
 use Rattle.rules.specs.Severity.{inRange, onLot, onResubmitted, onCorrective}
-use Rattle.rules.specs.Variables.{VariablesPlan, Gauged, inGauge, allInGauge, readingsOf, acceptsReadings}
+use Rattle.rules.specs.Variables.{VariablesPlan, Gauged, allInGauge, readingsOf}
 use Rattle.rules.specs.Variables.{judgeReadings, sumZ, squaresZ}
 use Rattle.rules.specs.History.{Work, eventIn, placed, afterHistory, listed}
 use Rattle.rules.proofs.Histories.{From, from-suc, from-first, from-refused}
@@ -48,7 +48,6 @@ use Rattle.rules.proofs.Bounded.{by-le}
 use Rattle.rules.proofs.Bools.{and-left, and-right, or-neither}
 use Rattle.rules.proofs.Answers.{refused-given, given-one, then-given}
 use Rattle.rules.proofs.Checks.{Plannable}
-use Rattle.rules.proofs.Items.{IllegalAt, any-means, any-when, all-legal}
 use Rattle.rules.proofs.Refusals.{Row, here, later, NoRow, Then, Reports, check, stops, passes, nothing-wrong}
 use Rattle.rules.proofs.Refusals.{chain, seen-from, first-given, last-from, refused-number, refused-place}
 use Rattle.rules.proofs.Deciding.{SampleRows, EndsAtItem, MeetsItem, sequence-decided, sequence-reports}
@@ -58,8 +57,10 @@ use Rattle.rules.proofs.EntryLaws.{fromBook, NoPlan, book-plan-reports,
 use Rattle.rules.proofs.EntryLaws.{two-given, judged-on-book, judged-by, Closes, closing-reports, closing-given}
 use Rattle.rules.proofs.EntryLaws.{closing-on-book, closing-book-given, lot-on}
 use Rattle.rules.proofs.SMethod.{OutAt, out-means, out-when, all-in}
+use Rattle.rules.proofs.SampleLaws.{ItemRows, items-refused, ItemsJudged, items-given, ReadingRows}
+use Rattle.rules.proofs.SampleLaws.{readings-refused, ReadingsJudged, readings-given}
 
--- 0. The letter of a size and level, and of a lot.
+-- The letter of a size and level, and of a lot.
 module _ (size level : ℕ) where
   pub letter-refused : Reports 2 (Row 2 (size < 2) (Row 3 (6 < level) NoRow)) (tableOneLetter size level)
   unfolding tableOneLetter
@@ -197,115 +198,7 @@ module _ (q : Asked) (book : List ℕ) where
   unfolding variablesPlan fromBook
   variables-plan-given = book-plan-given variablesSection variablesNeeds variablesOf q book
 
--- 3. A single sample. 7 where it is not exactly the plan's n items, 8 for an item over 1 where items are 0 or 1.
-module _ (column : ℕ) (sample : List ℕ) (plan : Plan) where
-  abbrev pub ItemRows : ℕ → Type 0
-  ItemRows = Row 7 (length sample ≡ 2 * plan .n → ⊥) (Row 8 (IllegalAt column (numbersOf sample)) NoRow)
-
-  pub items-refused : Reports 7 ItemRows (judgeItems column plan sample)
-  unfolding judgeItems
-  items-refused =
-      check 7 (not (eqb (length sample) (2 * plan .n)))
-      (λ t. eqb-false (length sample) (2 * plan .n) (not-true (eqb (length sample) (2 * plan .n)) t))
-      (λ w. ap not (ne-eqb (length sample) (2 * plan .n) w)) (omega arith)
-      (check 8 (anyIllegal column (numbersOf sample)) (any-means column (numbersOf sample))
-      (any-when column (numbersOf sample)) (le-refl 8) nothing-wrong)
-
-  pub record ItemsJudged (v : Verdict) : Type 0 where
-    pub whole : length sample ≡ 2 * plan .n
-    pub legal : IllegalAt column (numbersOf sample) → ⊥
-    pub verdict : singleVerdict plan (sumOf (numbersOf sample)) ≡ v
-
-  pub items-given : (v : Verdict) → (judgeItems column plan sample ≡ given v) ↔ ItemsJudged v
-  unfolding judgeItems
-  items-given v = (
-    λ g.
-        let h = two .0 g in
-        record {
-          whole = eqb-true (length sample) (2 * plan .n) (not-false (eqb (length sample) (2 * plan .n)) (h .0));
-          legal = all-legal column (numbersOf sample) .0 (h .1);
-          verdict = h .2;
-        },
-    λ j. two .1 (
-      ap not (eq-eqb (length sample) (2 * plan .n) (j .whole)),
-      all-legal column (numbersOf sample) .1
-          (j .legal),
-      j .verdict,
-    ),
-  )
-    where
-      two : (judgeItems column plan sample ≡ given v)
-          ↔ ((not (eqb (length sample) (2 * plan .n)) ≡ false)
-          × (anyIllegal column (numbersOf sample) ≡ false)
-          × (singleVerdict plan (sumOf (numbersOf sample)) ≡ v))
-      two = two-given _ _ 7 8 _ v
-
--- 4. Readings. 7 where there are not exactly the plan's n, 9 for a reading or the limit out of range.
-module _ (upper : Bool) (limit : ℤ) (bytes : List ℕ) (plan : VariablesPlan) where
-  pub data OutOfGauge : Type 0 where
-    reading : OutAt (readingsOf bytes) → OutOfGauge
-    the-limit : inGauge limit ≡ false → OutOfGauge
-
-  abbrev pub ReadingRows : ℕ → Type 0
-  ReadingRows = Row 7 (length bytes ≡ 2 * plan .n → ⊥) (Row 9 OutOfGauge NoRow)
-
-  out-so : (a b : Bool) → allInGauge (readingsOf bytes) ≡ a → inGauge limit ≡ b → (not a || not b) ≡ true → OutOfGauge
-  out-so false b e f t = reading (out-means (readingsOf bytes) e)
-  out-so true false e f t = the-limit f
-  out-so true true e f t = absurd (false≢true t)
-
-  out-then : OutOfGauge → (not (allInGauge (readingsOf bytes)) || not (inGauge limit)) ≡ true
-  out-then (reading o) = rw (out-when (readingsOf bytes) o)
-  out-then (the-limit e) = rw e (or-true (not (allInGauge (readingsOf bytes))))
-
-  pub readings-refused : Reports 7 ReadingRows (judgeReadings upper plan limit bytes)
-  unfolding judgeReadings
-  readings-refused =
-      check 7 (not (eqb (length bytes) (2 * plan .n)))
-      (λ t. eqb-false (length bytes) (2 * plan .n) (not-true (eqb (length bytes) (2 * plan .n)) t))
-      (λ w. ap not (ne-eqb (length bytes) (2 * plan .n) w)) (omega arith)
-      (check 9 (not (allInGauge (readingsOf bytes)) || not (inGauge limit))
-      (out-so (allInGauge (readingsOf bytes)) (inGauge limit) refl refl) out-then (le-refl 9) nothing-wrong)
-
-  pub record ReadingsJudged (v : Gauged) : Type 0 where
-    pub whole : length bytes ≡ 2 * plan .n
-    pub readings-in : OutAt (readingsOf bytes) → ⊥
-    pub limit-in : inGauge limit ≡ true
-    pub verdict : record { accepted = acceptsReadings upper plan limit (readingsOf bytes); used = plan .n } ≡ v
-
-  in-both : (a b : Bool) → (not a || not b) ≡ false → (a ≡ true) × (b ≡ true)
-  in-both true true e = (refl, refl)
-  in-both true false e = absurd (false≢true (sym e))
-  in-both false b e = absurd (false≢true (sym e))
-
-  pub readings-given : (v : Gauged) → (judgeReadings upper plan limit bytes ≡ given v) ↔ ReadingsJudged v
-  unfolding judgeReadings
-  readings-given v = (
-    λ g.
-        let h = two .0 g in
-        let i = in-both (allInGauge (readingsOf bytes)) (inGauge limit) (h .1) in
-        record {
-          whole = eqb-true (length bytes) (2 * plan .n) (not-false (eqb (length bytes) (2 * plan .n)) (h .0));
-          readings-in = all-in (readingsOf bytes) .0 (i .0);
-          limit-in = i .1;
-          verdict = h .2;
-        },
-    λ j.
-        two .1 (
-          ap not (eq-eqb (length bytes) (2 * plan .n) (j .whole)),
-          rw
-              (all-in (readingsOf bytes) .1 (j .readings-in), j .limit-in),
-          j .verdict,
-        ),
-  )
-    where
-      two : (judgeReadings upper plan limit bytes ≡ given v)
-          ↔ ((not (eqb (length bytes) (2 * plan .n)) ≡ false)
-          × ((not (allInGauge (readingsOf bytes)) || not (inGauge limit)) ≡ false)
-          × (record { accepted = acceptsReadings upper plan limit (readingsOf bytes); used = plan .n } ≡ v))
-      two = two-given _ _ 7 9 _ v
-
--- 5. A lot judged: its plan, and then its sample. Where there is no plan, the plan's refusal.
+-- 3. A lot judged: its plan, and then its sample. Where there is no plan, the plan's refusal.
 module _ (q : Asked) (book sample : List ℕ) where
   pub judge-single-refused :
       OnBook book (Then (SinglePlanRows q book) (singlePlan q book) (ItemRows (q .column) sample))
@@ -375,7 +268,7 @@ module _ (q : Asked) (book sample : List ℕ) where
       judged-by (variablesPlan q book) (λ plan. judgeReadings upper plan limit sample)
       (ReadingsJudged upper limit sample) (readings-given upper limit sample) j
 
--- 6. A lot by its total, on a bench without a book. 6 under reduced inspection, 8 for a total over n where items count.
+-- 4. A lot by its total, on a bench without a book. 6 under reduced inspection, 8 for a total over n where items count.
 module _ (q : Asked) where
   abbrev pub PlainPlanRows : ℕ → Type 0
   PlainPlanRows = LotRows q (Row 6 (q .severity ≡ 2) NoRow)
@@ -468,7 +361,7 @@ module _ (q : Asked) where
             rw (plain-plan-given (j .plan) .1 (t .planned), right-total (j .plan) (t .within-n))
             (ap (λ (v : Verdict). given (record { plan = j .plan; verdict = v })) (t .verdict))
 
--- 7. A lot closed: 1 for a record out of range, and else as the lot is judged at the present severity. What is judged
+-- 5. A lot closed: 1 for a record out of range, and else as the lot is judged at the present severity. What is judged
 -- is
 -- taken into the record: the severity is not stopped, so that the step is always given (`lot-steps`).
 module _ (r : Record) (o : Offered) (book sample : List ℕ) where
@@ -534,7 +427,7 @@ module _ (r : Record) (o : Offered) (total : ℕ) where
 never : {P : Type 0} → _≡_ {A = ℕ} 0 1 → P
 never e = absurd (omega arith)
 
--- 8. A history byte: 1 for a record out of range or a byte of no known form, 5 for any lot while stopped, 10 for a
+-- 6. A history byte: 1 for a record out of range or a byte of no known form, 5 for any lot while stopped, 10 for a
 -- corrective order when not stopped.
 abbrev pub IsLot : Event → Type 0
 IsLot (lot from l) = Unit
@@ -613,7 +506,7 @@ module _ (r : Record) where
     λ h. first-given ((not (inRange r) gives unknownForm) ∷ []) _ t .1 ((ap not (h .0), tt), h .1),
   )
 
--- 9. The screen: 7 unless there are 1 to 50 whole readings, 9 for one out of range.
+-- 7. The screen: 7 unless there are 1 to 50 whole readings, 9 for one out of range.
 module _ (bytes : List ℕ) where
   abbrev unfit : Bool
   unfit = halfLeft bytes || (eqb (length bytes) 0 || ltb 100 (length bytes))
@@ -688,7 +581,7 @@ module _ (bytes : List ℕ) where
           × (shownOf (length bytes / 2) (sumZ (readingsOf bytes)) (squaresZ (readingsOf bytes)) ≡ s))
       two = two-given _ _ 7 9 _ s
 
--- 10. A sample judged on a plan that is handed over: 6 for one that no sound book could hold, and 4 for a column over
+-- 8. A sample judged on a plan that is handed over: 6 for one that no sound book could hold, and 4 for a column over
 -- 25
 -- where the column says which items are legal.
 module _ (k : Kind) (e : List ℕ) where
@@ -799,7 +692,7 @@ module _ (bytes : List ℕ) where
       λ s. held-given variables (variablesEntry plan) _ v .1 (s .0, readings-given upper limit bytes plan v .1 (s .1)),
     )
 
--- 11. The severities of a history: its first bad byte, with its place; then 11 for a buffer shorter than the history.
+-- 9. The severities of a history: its first bad byte, with its place; then 11 for a buffer shorter than the history.
 placed-refused : {A : Type 0} (at n k : ℕ) (a : Answer A) → placed at a ≡ refused n k
     → (p : ℕ) × (a ≡ refused n p) × (at ≡ k)
 placed-refused at n k (refused m p) e =

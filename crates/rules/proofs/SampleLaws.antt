@@ -1,0 +1,134 @@
+-- A sample of items and one of readings, judged on a plan: what is refused, and what is given.
+-- Assumes nothing.
+use Prim.Native.Nat.{ℕ, _*_}
+use mathlib.Core.Path.{_≡_, refl, sym, ap}
+use mathlib.Core.Logic.{_↔_}
+use mathlib.Core.Bool.{Bool, true, false, _||_, not, false≢true, or-true}
+use mathlib.Core.List.{List}
+use native.Mathlib.Nat.{le-refl}
+use native.Mathlib.Omega.{arith}
+use borrow.Author.Tests.{eqb-true, eqb-false, eq-eqb}
+use borrow.Author.Tests.{ne-eqb}
+use borrow.Author.Tests.{not-true, not-false}
+use lib.Dec.{eqb}
+use lib.IntN.{ℤ}
+use lib.ListN.{length}
+use Rattle.rules.specs.Refusals.{given}
+use Rattle.rules.specs.Numbers.{numbersOf, sumOf}
+use Rattle.rules.specs.Codes.{anyIllegal}
+use Rattle.rules.specs.Verdict.{Verdict}
+use Rattle.rules.specs.Single.{Plan, singleVerdict, judgeItems}
+use Rattle.rules.specs.Variables.{VariablesPlan, Gauged, inGauge, allInGauge, readingsOf, acceptsReadings}
+use Rattle.rules.specs.Variables.{judgeReadings}
+use Rattle.rules.proofs.Items.{IllegalAt, any-means, any-when, all-legal}
+use Rattle.rules.proofs.Refusals.{Row, NoRow, Reports, check, nothing-wrong}
+use Rattle.rules.proofs.EntryLaws.{two-given}
+use Rattle.rules.proofs.SMethod.{OutAt, out-means, out-when, all-in}
+
+-- A single sample. 7 where it is not exactly the plan's n items, 8 for an item over 1 where items are 0 or 1.
+module _ (column : ℕ) (sample : List ℕ) (plan : Plan) where
+  abbrev pub ItemRows : ℕ → Type 0
+  ItemRows = Row 7 (length sample ≡ 2 * plan .n → ⊥) (Row 8 (IllegalAt column (numbersOf sample)) NoRow)
+
+  pub items-refused : Reports 7 ItemRows (judgeItems column plan sample)
+  unfolding judgeItems
+  items-refused =
+      check 7 (not (eqb (length sample) (2 * plan .n)))
+      (λ t. eqb-false (length sample) (2 * plan .n) (not-true (eqb (length sample) (2 * plan .n)) t))
+      (λ w. ap not (ne-eqb (length sample) (2 * plan .n) w)) (omega arith)
+      (check 8 (anyIllegal column (numbersOf sample)) (any-means column (numbersOf sample))
+      (any-when column (numbersOf sample)) (le-refl 8) nothing-wrong)
+
+  pub record ItemsJudged (v : Verdict) : Type 0 where
+    pub whole : length sample ≡ 2 * plan .n
+    pub legal : IllegalAt column (numbersOf sample) → ⊥
+    pub verdict : singleVerdict plan (sumOf (numbersOf sample)) ≡ v
+
+  pub items-given : (v : Verdict) → (judgeItems column plan sample ≡ given v) ↔ ItemsJudged v
+  unfolding judgeItems
+  items-given v = (
+    λ g.
+        let h = two .0 g in
+        record {
+          whole = eqb-true (length sample) (2 * plan .n) (not-false (eqb (length sample) (2 * plan .n)) (h .0));
+          legal = all-legal column (numbersOf sample) .0 (h .1);
+          verdict = h .2;
+        },
+    λ j. two .1 (
+      ap not (eq-eqb (length sample) (2 * plan .n) (j .whole)),
+      all-legal column (numbersOf sample) .1
+          (j .legal),
+      j .verdict,
+    ),
+  )
+    where
+      two : (judgeItems column plan sample ≡ given v)
+          ↔ ((not (eqb (length sample) (2 * plan .n)) ≡ false)
+          × (anyIllegal column (numbersOf sample) ≡ false)
+          × (singleVerdict plan (sumOf (numbersOf sample)) ≡ v))
+      two = two-given _ _ 7 8 _ v
+
+-- Readings. 7 where there are not exactly the plan's n, 9 for a reading or the limit out of range.
+module _ (upper : Bool) (limit : ℤ) (bytes : List ℕ) (plan : VariablesPlan) where
+  pub data OutOfGauge : Type 0 where
+    reading : OutAt (readingsOf bytes) → OutOfGauge
+    the-limit : inGauge limit ≡ false → OutOfGauge
+
+  abbrev pub ReadingRows : ℕ → Type 0
+  ReadingRows = Row 7 (length bytes ≡ 2 * plan .n → ⊥) (Row 9 OutOfGauge NoRow)
+
+  out-so : (a b : Bool) → allInGauge (readingsOf bytes) ≡ a → inGauge limit ≡ b → (not a || not b) ≡ true → OutOfGauge
+  out-so false b e f t = reading (out-means (readingsOf bytes) e)
+  out-so true false e f t = the-limit f
+  out-so true true e f t = absurd (false≢true t)
+
+  out-then : OutOfGauge → (not (allInGauge (readingsOf bytes)) || not (inGauge limit)) ≡ true
+  out-then (reading o) = rw (out-when (readingsOf bytes) o)
+  out-then (the-limit e) = rw e (or-true (not (allInGauge (readingsOf bytes))))
+
+  pub readings-refused : Reports 7 ReadingRows (judgeReadings upper plan limit bytes)
+  unfolding judgeReadings
+  readings-refused =
+      check 7 (not (eqb (length bytes) (2 * plan .n)))
+      (λ t. eqb-false (length bytes) (2 * plan .n) (not-true (eqb (length bytes) (2 * plan .n)) t))
+      (λ w. ap not (ne-eqb (length bytes) (2 * plan .n) w)) (omega arith)
+      (check 9 (not (allInGauge (readingsOf bytes)) || not (inGauge limit))
+      (out-so (allInGauge (readingsOf bytes)) (inGauge limit) refl refl) out-then (le-refl 9) nothing-wrong)
+
+  pub record ReadingsJudged (v : Gauged) : Type 0 where
+    pub whole : length bytes ≡ 2 * plan .n
+    pub readings-in : OutAt (readingsOf bytes) → ⊥
+    pub limit-in : inGauge limit ≡ true
+    pub verdict : record { accepted = acceptsReadings upper plan limit (readingsOf bytes); used = plan .n } ≡ v
+
+  in-both : (a b : Bool) → (not a || not b) ≡ false → (a ≡ true) × (b ≡ true)
+  in-both true true e = (refl, refl)
+  in-both true false e = absurd (false≢true (sym e))
+  in-both false b e = absurd (false≢true (sym e))
+
+  pub readings-given : (v : Gauged) → (judgeReadings upper plan limit bytes ≡ given v) ↔ ReadingsJudged v
+  unfolding judgeReadings
+  readings-given v = (
+    λ g.
+        let h = two .0 g in
+        let i = in-both (allInGauge (readingsOf bytes)) (inGauge limit) (h .1) in
+        record {
+          whole = eqb-true (length bytes) (2 * plan .n) (not-false (eqb (length bytes) (2 * plan .n)) (h .0));
+          readings-in = all-in (readingsOf bytes) .0 (i .0);
+          limit-in = i .1;
+          verdict = h .2;
+        },
+    λ j.
+        two .1 (
+          ap not (eq-eqb (length bytes) (2 * plan .n) (j .whole)),
+          rw
+              (all-in (readingsOf bytes) .1 (j .readings-in), j .limit-in),
+          j .verdict,
+        ),
+  )
+    where
+      two : (judgeReadings upper plan limit bytes ≡ given v)
+          ↔ ((not (eqb (length bytes) (2 * plan .n)) ≡ false)
+          × ((not (allInGauge (readingsOf bytes)) || not (inGauge limit)) ≡ false)
+          × (record { accepted = acceptsReadings upper plan limit (readingsOf bytes); used = plan .n } ≡ v))
+      two = two-given _ _ 7 9 _ v
