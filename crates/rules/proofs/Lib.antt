@@ -9,6 +9,7 @@ pub mod Deciding
 pub mod Demands
 pub mod Diff
 pub mod EntryLaws
+pub mod EventLaws
 pub mod Faults
 pub mod GivenPlans
 pub mod HeldPlans

@@ -1,29 +1,28 @@
 -- A sample of items and one of readings, judged on a plan: what is refused, and what is given.
 -- Assumes nothing.
-use Prim.Native.Nat.{ℕ, _*_}
+use Prim.Native.Nat.{ℕ, _*_, _%_, _/_, _≤_}
 use mathlib.Core.Path.{_≡_, refl, sym, ap}
 use mathlib.Core.Logic.{_↔_}
 use mathlib.Core.Bool.{Bool, true, false, _||_, not, false≢true, or-true}
 use mathlib.Core.List.{List}
 use native.Mathlib.Nat.{le-refl}
 use native.Mathlib.Omega.{arith}
-use borrow.Author.Tests.{eqb-true, eqb-false, eq-eqb}
-use borrow.Author.Tests.{ne-eqb}
-use borrow.Author.Tests.{not-true, not-false}
-use lib.Dec.{eqb}
+use borrow.Author.Tests.{ltb-false, le-ltb, eqb-true, eqb-false, eq-eqb, ne-eqb, not-true, not-false}
+use lib.Dec.{ltb, eqb}
 use lib.IntN.{ℤ}
 use lib.ListN.{length}
 use Rattle.rules.specs.Refusals.{given}
-use Rattle.rules.specs.Numbers.{numbersOf, sumOf}
+use Rattle.rules.specs.Numbers.{halfLeft, numbersOf, sumOf}
 use Rattle.rules.specs.Codes.{anyIllegal}
 use Rattle.rules.specs.Verdict.{Verdict}
 use Rattle.rules.specs.Single.{Plan, singleVerdict, judgeItems}
-use Rattle.rules.specs.Variables.{VariablesPlan, Gauged, inGauge, allInGauge, readingsOf, acceptsReadings}
-use Rattle.rules.specs.Variables.{judgeReadings}
-use Rattle.rules.proofs.Items.{IllegalAt, any-means, any-when, all-legal}
+use Rattle.rules.specs.Variables.{VariablesPlan, Gauged, allInGauge, readingsOf, judgeReadings, inGauge}
+use Rattle.rules.specs.Variables.{acceptsReadings}
+use Rattle.rules.proofs.Bools.{or-neither}
 use Rattle.rules.proofs.Refusals.{Row, NoRow, Reports, check, nothing-wrong}
 use Rattle.rules.proofs.EntryLaws.{two-given}
 use Rattle.rules.proofs.SMethod.{OutAt, out-means, out-when, all-in}
+use Rattle.rules.proofs.Items.{IllegalAt, any-means, any-when, all-legal}
 
 -- A single sample. 7 where it is not exactly the plan's n items, 8 for an item over 1 where items are 0 or 1.
 module _ (column : ℕ) (sample : List ℕ) (plan : Plan) where
@@ -132,3 +131,33 @@ module _ (upper : Bool) (limit : ℤ) (bytes : List ℕ) (plan : VariablesPlan) 
           × ((not (allInGauge (readingsOf bytes)) || not (inGauge limit)) ≡ false)
           × (record { accepted = acceptsReadings upper plan limit (readingsOf bytes); used = plan .n } ≡ v))
       two = two-given _ _ 7 9 _ v
+
+-- The readings that a screen shows: 1 to 50, none half there.
+module _ (bytes : List ℕ) where
+  abbrev pub unfit : Bool
+  unfit = halfLeft bytes || (eqb (length bytes) 0 || ltb 100 (length bytes))
+
+  pub fits : (n : ℕ) → 1 ≤ n → n ≤ 50 → length bytes ≡ 2 * n → unfit ≡ false
+  fits n a b e =
+      let even : eqb (length bytes % 2) 1 ≡ false = ne-eqb (length bytes % 2) 1 (λ h. omega arith) in
+      let some : eqb (length bytes) 0 ≡ false = ne-eqb (length bytes) 0 (λ h. omega arith) in
+      let few : ltb 100 (length bytes) ≡ false = le-ltb 100 (length bytes) (omega arith) in
+      rw (even, some, few)
+
+  pub record Fits (n : ℕ) : Type 0 where
+    pub some : 1 ≤ n
+    pub few : n ≤ 50
+    pub whole : length bytes ≡ 2 * n
+
+  pub fit-so : unfit ≡ false → Fits (length bytes / 2)
+  fit-so t =
+      let a = or-neither (halfLeft bytes) (eqb (length bytes) 0 || ltb 100 (length bytes)) t in
+      let b = or-neither (eqb (length bytes) 0) (ltb 100 (length bytes)) (a .1) in
+      let even : length bytes % 2 ≡ 1 → ⊥ = eqb-false (length bytes % 2) 1 (a .0) in
+      let some : length bytes ≡ 0 → ⊥ = eqb-false (length bytes) 0 (b .0) in
+      let few : length bytes ≤ 100 = ltb-false 100 (length bytes) (b .1) in
+      record { some = omega arith; few = omega arith; whole = omega arith }
+
+  pub unfit-when : (t : Bool) → unfit ≡ t → ((n : ℕ) → Fits n → ⊥) → t ≡ true
+  unfit-when true e w = refl
+  unfit-when false e w = absurd (w (length bytes / 2) (fit-so e))

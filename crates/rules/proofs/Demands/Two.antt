@@ -4,61 +4,56 @@
 -- (`refused-exactly`),
 -- and is given exactly where no row holds (`given-exactly`): nothing else is refused.
 -- Assumes nothing.
-use Prim.Native.Nat.{ℕ, zero, suc, _*_, _%_, _/_, _≤_, _<_}
+use Prim.Native.Nat.{ℕ, _/_, _≤_, _<_}
 use mathlib.Core.Path.{_≡_, refl, sym, ap, subst, _∙_}
 use mathlib.Core.Logic.{_↔_, _⊎_, inl, inr}
-use mathlib.Core.Bool.{Bool, true, false, cond, _&&_, _||_, not, false≢true}
+use mathlib.Core.Bool.{Bool, true, false, cond, _&&_, not, false≢true}
 use mathlib.Core.List.{List, [], _∷_}
-use native.Mathlib.Nat.{le-refl, le-trans}
+use native.Mathlib.Nat.{le-refl}
 use native.Mathlib.Omega.{arith}
 use borrow.Author.Tests.{ltb-true, ltb-false, lt-ltb, le-ltb, leb-true, le-leb, lt-leb, eqb-true, eqb-false, eq-eqb}
-use borrow.Author.Tests.{ne-eqb}
-use borrow.Author.Tests.{not-true, not-false}
+use borrow.Author.Tests.{ne-eqb, not-true, not-false}
 use lib.Dec.{leb, ltb, eqb}
 use lib.IntN.{ℤ}
-use lib.ListN.{length, getD}
-use Rattle.rules.specs.Refusals.{Answer, refused, given, _gives_, firstOf, andThen}
-use Rattle.rules.specs.Refusals.{illegalItem}
-use Rattle.rules.specs.Refusals.{bufferShort, noPlan, noSuchColumn, unknownForm}
-use Rattle.rules.specs.Numbers.{halfLeft}
+use lib.ListN.{length}
+use Rattle.rules.specs.Refusals.{Answer, refused, given, _gives_, firstOf, andThen, illegalItem, bufferShort}
+use Rattle.rules.specs.Refusals.{noPlan, noSuchColumn, unknownForm}
 use Rattle.rules.specs.Codes.{reduced, countsItems, letterOf, tableOneLetter}
 use Rattle.rules.specs.Verdict.{Verdict, Judged}
 use Rattle.rules.specs.Single.{Plan, tablePlan, singleVerdict, judgeItems}
 use Rattle.rules.specs.Staged.{StagedPlan, stagesOf, totalSize, judgeStages}
 use Rattle.rules.specs.Sequential.{SequentialPlan, judgeSequence}
-use Rattle.rules.specs.Book.{Kind, reducedSingles, staged, sequential, variables, couldHold}
+use Rattle.rules.specs.Book.{Kind, reducedSingles, staged, sequential, variables, couldHold, sound, checkBook}
+use Rattle.rules.specs.Book.{Found, found, nothing, stagedOf, sequentialOf, variablesOf}
 use Rattle.rules.specs.Entries.{unlessHeld, singleEntry, stagedEntry, sequentialEntry, variablesEntry}
-use Rattle.rules.specs.Entries.{singleSample, stagedSample, sequentialSample, variablesSample}
-use Rattle.rules.specs.Book.{sound, checkBook, Found, found, nothing, stagedOf, sequentialOf}
-use Rattle.rules.specs.Book.{variablesOf}
-use Rattle.rules.specs.Entries.{Asked, askedLetter, lookedUp, reducedSection, stagedSection, sequentialSection}
+use Rattle.rules.specs.Entries.{singleSample, stagedSample, sequentialSample, variablesSample, Asked}
+use Rattle.rules.specs.Entries.{askedLetter, lookedUp, reducedSection, stagedSection, sequentialSection}
 use Rattle.rules.specs.Entries.{variablesSection, fromEntry, reducedPlan, singlePlan, plainPlan, stagedPlan}
 use Rattle.rules.specs.Entries.{sequentialPlan, variablesPlan, judgeSingle, judgeStaged, judgeSequential}
 use Rattle.rules.specs.Entries.{judgeVariables, totalOn, judgeTotal, next, Closed, Offered, askedOn}
 use Rattle.rules.specs.Entries.{singleCounts, stagedCounts, closeSingle, closeStaged, closeTotal}
-use Rattle.rules.specs.Severity.{Lot, Event, lot, resubmitted, corrective, unknown, steadyIs}
-use Rattle.rules.specs.Severity.{permissionIs, Record, fresh, step}
-use Rattle.rules.specs.Severity.{inRange, onLot, onResubmitted, onCorrective}
-use Rattle.rules.specs.Variables.{VariablesPlan, Gauged, allInGauge, readingsOf}
-use Rattle.rules.specs.Variables.{judgeReadings, sumZ, squaresZ}
-use Rattle.rules.specs.History.{Work, eventIn, placed, afterHistory, listed}
-use Rattle.rules.proofs.Histories.{From, from-suc, from-first, from-refused}
+use Rattle.rules.specs.Severity.{lot, Record, fresh, step, inRange}
+use Rattle.rules.specs.Variables.{VariablesPlan, Gauged, allInGauge, readingsOf, judgeReadings, sumZ, squaresZ}
+use Rattle.rules.specs.History.{Work, eventIn, afterHistory, listed}
+use Rattle.rules.proofs.Histories.{from-refused}
 use Rattle.rules.specs.Screen.{Shown, screen, shownOf}
 use Rattle.rules.proofs.Bounded.{by-le}
-use Rattle.rules.proofs.Bools.{and-left, and-right, or-neither}
+use Rattle.rules.proofs.Bools.{and-left, and-right}
 use Rattle.rules.proofs.Answers.{refused-given, given-one, then-given}
 use Rattle.rules.proofs.Checks.{Plannable}
-use Rattle.rules.proofs.Refusals.{Row, here, later, NoRow, Then, Reports, check, stops, passes, nothing-wrong}
-use Rattle.rules.proofs.Refusals.{chain, seen-from, first-given, last-from, refused-number, refused-place}
+use Rattle.rules.proofs.Refusals.{Row, NoRow, Then, Reports, check, stops, passes, nothing-wrong, chain}
+use Rattle.rules.proofs.Refusals.{seen-from, first-given, refused-number, refused-place}
 use Rattle.rules.proofs.Deciding.{SampleRows, EndsAtItem, MeetsItem, sequence-decided, sequence-reports}
 use Rattle.rules.proofs.Deciding.{EndsAtStage, MeetsInStage, stages-decided, stages-report}
 use Rattle.rules.proofs.EntryLaws.{LotRows, lot-reports, lot-passes, lot-given, OnBook, on-book, sound-given}
-use Rattle.rules.proofs.EntryLaws.{fromBook, NoPlan, book-plan-reports, Supplies, book-plan-given}
-use Rattle.rules.proofs.EntryLaws.{two-given, judged-on-book, judged-by, Closes, closing-reports, closing-given}
-use Rattle.rules.proofs.EntryLaws.{closing-on-book, closing-book-given, lot-on}
+use Rattle.rules.proofs.EntryLaws.{fromBook, NoPlan, book-plan-reports, Supplies, book-plan-given, two-given}
+use Rattle.rules.proofs.EntryLaws.{judged-on-book, judged-by, Closes, closing-reports, closing-given}
+use Rattle.rules.proofs.EntryLaws.{closing-on-book, closing-book-given}
 use Rattle.rules.proofs.SMethod.{OutAt, out-means, out-when, all-in}
 use Rattle.rules.proofs.SampleLaws.{ItemRows, items-refused, ItemsJudged, items-given, ReadingRows}
-use Rattle.rules.proofs.SampleLaws.{readings-refused, ReadingsJudged, readings-given}
+use Rattle.rules.proofs.SampleLaws.{readings-refused, ReadingsJudged, readings-given, unfit, fits, Fits}
+use Rattle.rules.proofs.SampleLaws.{fit-so, unfit-when}
+use Rattle.rules.proofs.EventLaws.{EventRows, step-refused, FirstBad, first-bad}
 
 -- The letter of a size and level, and of a lot.
 module _ (size level : ℕ) where
@@ -424,77 +419,14 @@ module _ (r : Record) (o : Offered) (total : ℕ) where
   unfolding closeTotal
   close-total-given = closing-given r o (judgeTotal (askedOn r o) total) (singleCounts r o)
 
-never : {P : Type 0} → _≡_ {A = ℕ} 0 1 → P
-never e = absurd (omega arith)
-
 -- 6. A history byte: 1 for a record out of range or a byte of no known form, 5 for any lot while stopped, 10 for a
 -- corrective order when not stopped.
-abbrev pub IsLot : Event → Type 0
-IsLot (lot from l) = Unit
-IsLot resubmitted = Unit
-IsLot (steadyIs b) = ⊥
-IsLot (permissionIs b) = ⊥
-IsLot corrective = ⊥
-IsLot unknown = ⊥
-
 module _ (r : Record) where
-  abbrev pub EventRows : Event → ℕ → Type 0
-  EventRows e =
-      Row 1 (e ≡ unknown)
-      (Row 5 (IsLot e × (3 ≤ r .severity)) (Row 10 ((e ≡ corrective) × (r .severity < 3)) NoRow))
-
-  -- nothing is wrong with an event that is none of these
-  taken : {a : Record} (e : Event) → (e ≡ unknown → ⊥) → (IsLot e → r .severity < 3)
-      → (e ≡ corrective → 3 ≤ r .severity)
-      → Reports 1 (EventRows e) (given a)
-  taken e known inspected stopped =
-      passes 1 known (omega arith)
-      (passes 5 (λ w. let h = inspected (w .0) in omega arith) (omega arith)
-      (passes 10 (λ w. let h = stopped (w .0) in omega arith) (le-refl 10) nothing-wrong))
-
-  events-from : (e : Event) (m : ℕ)
-      → Row 5 (IsLot e × (3 ≤ r .severity)) (Row 10 ((e ≡ corrective) × (r .severity < 3)) NoRow) m → 5 ≤ m
-  events-from e m (here f) = le-refl 5
-  events-from e m (later w) = le-trans (omega arith) (last-from 10 m w)
-
-  -- a lot while stopped
-  stopped-lot : (e : Event) → (e ≡ unknown → ⊥) → IsLot e → 3 ≤ r .severity
-      → Reports {A = Record} 1 (EventRows e) (refused 5 0)
-  stopped-lot e known is h = passes 1 known (omega arith) (stops 5 (is, h) (omega arith) (last-from 10))
-
-  lot-stopped : (s : ℕ) (l : Lot) → 3 ≤ s → onLot s l r ≡ refused 5 0
-  unfolding onLot
-  lot-stopped zero l h = absurd (omega arith)
-  lot-stopped (suc zero) l h = absurd (omega arith)
-  lot-stopped (suc (suc zero)) l h = absurd (omega arith)
-  lot-stopped (suc (suc (suc s))) l h = refl
-
-  pub step-refused : (e : Event) → Reports 1 (EventRows e) (step r e)
-  unfolding step onResubmitted onCorrective
-  step-refused (lot from l) =
-      by-le 3 (r .severity)
-      (λ h. rw (lot-stopped (r .severity) l h) (stopped-lot (lot from l) (λ e. never (cc)) tt h))
-      (λ h. rw (lot-on (r .severity) l r h .1) (taken (lot from l) (λ e. never (cc)) (λ i. h) (λ e. never (cc))))
-  step-refused resubmitted =
-      by-le 3 (r .severity)
-      (λ h. rw (le-leb 3 (r .severity) h) (stopped-lot resubmitted (λ e. never (cc)) tt h))
-      (λ h. rw (lt-leb 3 (r .severity) h) (taken resubmitted (λ e. never (cc)) (λ i. h) (λ e. never (cc))))
-  step-refused (steadyIs b) = taken (steadyIs b) (λ e. never (cc)) (λ i. absurd i) (λ e. never (cc))
-  step-refused (permissionIs b) = taken (permissionIs b) (λ e. never (cc)) (λ i. absurd i) (λ e. never (cc))
-  step-refused corrective =
-      by-le 3 (r .severity)
-      (λ h. rw (le-leb 3 (r .severity) h) (taken corrective (λ e. never (cc)) (λ i. absurd i) (λ e. h)))
-      (λ h.
-      rw (lt-leb 3 (r .severity) h)
-      (passes 1 (λ e. never (cc)) (omega arith)
-      (passes 5 (λ w. w .0) (omega arith) (stops 10 (refl, h) (le-refl 10) (λ m w. absurd w)))))
-  step-refused unknown = stops 1 refl (omega arith) (events-from unknown)
-
   pub next-refused : (w : Work) (byte : ℕ)
-      → Reports 1 (Row 1 (inRange r ≡ false) (EventRows (eventIn w byte))) (next w r byte)
+      → Reports 1 (Row 1 (inRange r ≡ false) (EventRows r (eventIn w byte))) (next w r byte)
   unfolding next
   next-refused w byte =
-      check 1 (not (inRange r)) (not-true (inRange r)) (λ e. ap not e) (le-refl 1) (step-refused (eventIn w byte))
+      check 1 (not (inRange r)) (not-true (inRange r)) (λ e. ap not e) (le-refl 1) (step-refused r (eventIn w byte))
 
   pub next-given : (w : Work) (byte : ℕ) (t : Record)
       → (next w r byte ≡ given t) ↔ ((inRange r ≡ true) × (step r (eventIn w byte) ≡ given t))
@@ -508,41 +440,13 @@ module _ (r : Record) where
 
 -- 7. The screen: 7 unless there are 1 to 50 whole readings, 9 for one out of range.
 module _ (bytes : List ℕ) where
-  abbrev unfit : Bool
-  unfit = halfLeft bytes || (eqb (length bytes) 0 || ltb 100 (length bytes))
-
-  fits : (n : ℕ) → 1 ≤ n → n ≤ 50 → length bytes ≡ 2 * n → unfit ≡ false
-  fits n a b e =
-      let even : eqb (length bytes % 2) 1 ≡ false = ne-eqb (length bytes % 2) 1 (λ h. omega arith) in
-      let some : eqb (length bytes) 0 ≡ false = ne-eqb (length bytes) 0 (λ h. omega arith) in
-      let few : ltb 100 (length bytes) ≡ false = le-ltb 100 (length bytes) (omega arith) in
-      rw (even, some, few)
-
-  pub record Fits (n : ℕ) : Type 0 where
-    pub some : 1 ≤ n
-    pub few : n ≤ 50
-    pub whole : length bytes ≡ 2 * n
-
-  fit-so : unfit ≡ false → Fits (length bytes / 2)
-  fit-so t =
-      let a = or-neither (halfLeft bytes) (eqb (length bytes) 0 || ltb 100 (length bytes)) t in
-      let b = or-neither (eqb (length bytes) 0) (ltb 100 (length bytes)) (a .1) in
-      let even : length bytes % 2 ≡ 1 → ⊥ = eqb-false (length bytes % 2) 1 (a .0) in
-      let some : length bytes ≡ 0 → ⊥ = eqb-false (length bytes) 0 (b .0) in
-      let few : length bytes ≤ 100 = ltb-false 100 (length bytes) (b .1) in
-      record { some = omega arith; few = omega arith; whole = omega arith }
-
-  unfit-when : (t : Bool) → unfit ≡ t → ((n : ℕ) → Fits n → ⊥) → t ≡ true
-  unfit-when true e w = refl
-  unfit-when false e w = absurd (w (length bytes / 2) (fit-so e))
-
   abbrev pub ScreenRows : ℕ → Type 0
-  ScreenRows = Row 7 ((n : ℕ) → Fits n → ⊥) (Row 9 (OutAt (readingsOf bytes)) NoRow)
+  ScreenRows = Row 7 ((n : ℕ) → Fits bytes n → ⊥) (Row 9 (OutAt (readingsOf bytes)) NoRow)
 
   pub screen-refused : Reports 7 ScreenRows (screen bytes)
   unfolding screen
   screen-refused =
-      check 7 unfit (λ t n f. false≢true (sym (fits n (f .some) (f .few) (f .whole)) ∙ t)) (unfit-when unfit refl)
+      check 7 (unfit bytes) (λ t n f. false≢true (sym (fits bytes n (f .some) (f .few) (f .whole)) ∙ t)) (unfit-when bytes (unfit bytes) refl)
       (omega arith)
       (check 9 (not (allInGauge (readingsOf bytes)))
       (λ t. out-means (readingsOf bytes) (not-true (allInGauge (readingsOf bytes)) t))
@@ -550,7 +454,7 @@ module _ (bytes : List ℕ) where
 
   pub record Screened (s : Shown) : Type 0 where
     pub count : ℕ
-    pub fits-so : Fits count
+    pub fits-so : Fits bytes count
     pub readings-in : OutAt (readingsOf bytes) → ⊥
     pub shows : shownOf count (sumZ (readingsOf bytes)) (squaresZ (readingsOf bytes)) ≡ s
 
@@ -561,7 +465,7 @@ module _ (bytes : List ℕ) where
         let h = two .0 g in
         record {
           count = length bytes / 2;
-          fits-so = fit-so (h .0);
+          fits-so = fit-so bytes (h .0);
           readings-in = all-in (readingsOf bytes) .0 (not-false (allInGauge (readingsOf bytes)) (h .1));
           shows = h .2;
         },
@@ -569,14 +473,14 @@ module _ (bytes : List ℕ) where
         let f = c .fits-so in
         let half : length bytes / 2 ≡ c .count = omega (arith, f .whole) in
         two .1 (
-          fits (c .count) (f .some) (f .few) (f .whole),
+          fits bytes (c .count) (f .some) (f .few) (f .whole),
           ap not (all-in (readingsOf bytes) .1 (c .readings-in)),
           ap (λ (n : ℕ). shownOf n (sumZ (readingsOf bytes)) (squaresZ (readingsOf bytes))) half ∙ c .shows,
         ),
   )
     where
       two : (screen bytes ≡ given s)
-          ↔ ((unfit ≡ false)
+          ↔ ((unfit bytes ≡ false)
           × (not (allInGauge (readingsOf bytes)) ≡ false)
           × (shownOf (length bytes / 2) (sumZ (readingsOf bytes)) (squaresZ (readingsOf bytes)) ≡ s))
       two = two-given _ _ 7 9 _ s
@@ -693,42 +597,10 @@ module _ (bytes : List ℕ) where
     )
 
 -- 9. The severities of a history: its first bad byte, with its place; then 11 for a buffer shorter than the history.
-placed-refused : {A : Type 0} (at n k : ℕ) (a : Answer A) → placed at a ≡ refused n k
-    → (p : ℕ) × (a ≡ refused n p) × (at ≡ k)
-placed-refused at n k (refused m p) e =
-    (p, ap (λ (i : ℕ). refused i p) (refused-number e), refused-place e)
-placed-refused at n k (given a) e = absurd (refused-given (sym e))
-
 module _ (w : Work) (h : List ℕ) where
-  -- the record after the first i bytes
-  abbrev pub After : ℕ → Answer Record
-  After i = From w h (fresh (w .permission)) i
-
-  -- all bytes before the place are taken, and the byte there is refused
-  pub record FirstBad (n k : ℕ) : Type 0 where
-    pub so-far : Record
-    pub good : After k ≡ given so-far
-    pub place : ℕ
-    pub bad : step so-far (eventIn w (getD h k 0)) ≡ refused n place
-
-  first-bad : (m n k : ℕ) → After m ≡ refused n k → (k < m) × FirstBad n k
-  first-bad zero n k e =
-      absurd (refused-given (sym e ∙ from-first w h (fresh (w .permission)) (fresh (w .permission)) refl))
-  first-bad (suc m) n k e = on (After m) refl (sym (from-suc w h (fresh (w .permission)) m) ∙ e) (first-bad m n k)
-    where
-      on : (a : Answer Record) → After m ≡ a
-          → andThen a (λ t. placed m (step t (eventIn w (getD h m 0)))) ≡ refused n k
-          → (After m ≡ refused n k → (k < m) × FirstBad n k) → (k < suc m) × FirstBad n k
-      on (refused i p) q f more = let b = more (q ∙ f) in (le-trans (b .0) (omega arith), b .1)
-      on (given t) q f more =
-          let b = placed-refused m n k (step t (eventIn w (getD h m 0))) f in (
-            omega (arith, b .2),
-            subst (λ (i : ℕ). FirstBad n i) (b .2) (record { so-far = t; good = q; place = b .0; bad = b .1 }),
-          )
-
-  pub history-refused : (n k : ℕ) → (afterHistory w h ≡ refused n k) ↔ ((k < length h) × FirstBad n k)
+  pub history-refused : (n k : ℕ) → (afterHistory w h ≡ refused n k) ↔ ((k < length h) × FirstBad w h n k)
   history-refused n k = (
-    λ e. first-bad (length h) n k e,
+    λ e. first-bad w h (length h) n k e,
     λ b.
         let f = b .1 in
         from-refused w h (fresh (w .permission)) k (f .so-far) n (f .place) (b .0) (f .good) (sym (f .bad)),
