@@ -12,6 +12,7 @@ use Rattle.rules.specs.Refusals.{noPlan}
 use Rattle.rules.specs.Codes.{reduced, letterChecks, letterOf, tableOneLetter}
 use Rattle.rules.specs.Entries.{Asked, askedChecks, askedLetter, plainPlan}
 use Rattle.rules.specs.Single.{Plan, planAt, landingOf, tablePlan}
+use Rattle.rules.proofs.Answers.{refused-given, given-one}
 use Rattle.rules.proofs.Bounded.{by-le}
 
 -- the check at a place of the list finds something wrong
@@ -23,7 +24,7 @@ wrongAt (c ∷ cs) (suc i) = wrongAt cs i
 -- what is given has passed the check before it
 given-past : {A : Type 0} (P : Bool → Type 0) (t : Bool) (n p : ℕ) (x : Answer A) (a : A)
     → cond t (refused n p) x ≡ given a → (x ≡ given a → P false) → P t
-given-past P true n p x a e f = let z : _≡_ {A = ℕ} 0 1 = cc in absurd (omega arith)
+given-past P true n p x a e f = absurd (refused-given e)
 given-past P false n p x a e f = f e
 
 module _ {A : Type 0} (x : Answer A) (a : A) where
@@ -51,7 +52,7 @@ kept-at false k q n p x y f e = f e
 -- .. and checks that refuse one refuse each, by the same number
 pub kept : {A B : Type 0} (cs : List Check) (a : A) (n p : ℕ) (y : Answer B) → firstOf cs (given a) ≡ refused n p
     → firstOf cs y ≡ refused n p
-kept [] a n p y e = let z : _≡_ {A = ℕ} 0 1 = cc in absurd (omega arith)
+kept [] a n p y e = absurd (refused-given (sym e))
 kept (c ∷ cs) a n p y e =
     kept-at (c .wrong) (c .number) (c .place) n p (firstOf cs (given a)) (firstOf cs y) (kept cs a n p y) e
 
@@ -110,7 +111,7 @@ module _ (q : Asked) (l : ℕ) (e : askedLetter q ≡ given l) where
 
   pub asked-letter : letterOf (q .size) (q .level) ≡ l
   unfolding askedLetter
-  asked-letter = let g = sym (asked-passed (given (letterOf (q .size) (q .level)))) ∙ e in cc
+  asked-letter = given-one (sym (asked-passed (given (letterOf (q .size) (q .level)))) ∙ e)
 
   pub asked-plannable : Plannable q
   unfolding askedLetter

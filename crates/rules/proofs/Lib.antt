@@ -30,6 +30,7 @@ pub mod SMethod
 pub mod SampleLaws
 pub mod SampleSteps
 pub mod SectionKinds
+pub mod Singles
 pub mod Slips
 pub mod Stays
 pub mod Steps

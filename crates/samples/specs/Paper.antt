@@ -8,11 +8,14 @@ use Rattle.samples.specs.declared.SampleAnswer.{SampleAnswer}
 use Rattle.samples.specs.declared.SampleAnswer.the-variants.{Refused, Given}
 use Rattle.samples.specs.declared.Decision.{Decision}
 use Rattle.samples.specs.declared.Decision.the-variants.{Decides, GoesOn}
+use Rattle.samples.specs.declared.Taken.{Taken}
+use Rattle.samples.specs.declared.Taken.the-variants.{Missing, Over, Total}
 use Rattle.samples.specs.declared.SequentialPlan.{SequentialPlan}
 use Rattle.rules.specs.Refusals.{Answer, refused, given}
 use Rattle.rules.specs.Numbers.{numbersOf, halfLeft}
 use Rattle.rules.specs.Verdict as paper
 use Rattle.rules.specs.Sequential as sequential
+use Rattle.rules.specs.Staged as staged
 
 abbrev pub decisionPaper : Decision → paper.Decision
 decisionPaper (Decides accepted) = cond accepted paper.accepts paper.rejects
@@ -32,3 +35,14 @@ paperOf (Given v) = given (verdictPaper v)
 -- the verdict, where the sample ends at the item that decides
 abbrev pub endedAfter : List ℕ → Verdict → Answer paper.Verdict
 endedAfter s v = paper.ended (halfLeft s) (drop (v .used) (numbersOf s)) (verdictPaper v)
+
+-- what was taken of a sample, and the items left
+abbrev pub takenPaper : Taken → List ℕ → staged.Taken
+takenPaper Missing s = staged.missing
+takenPaper Over s = staged.over
+takenPaper (Total t place) s = staged.taken t (drop place (numbersOf s))
+
+abbrev pub takenTotal : Taken → ℕ
+takenTotal Missing = 0
+takenTotal Over = 0
+takenTotal (Total t place) = t

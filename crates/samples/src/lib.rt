@@ -1,12 +1,18 @@
 // Samples judged on a plan that is handed over: 16-bit little-endian items of lent bytes.
 ghost use mathlib.Core.Path.{_≡_};
-ghost use Prim.Native.Nat.{_≤_, _<_};
-ghost use lib.ListN.{length};
+ghost use Prim.Native.Nat.{_+_, _*_, _≤_, _<_};
+ghost use mathlib.Core.List.{[], _∷_};
+ghost use lib.ListN.{length, drop};
 ghost use Rattle.rules.specs.Numbers.{numbersOf};
+ghost use Rattle.rules.specs.Codes.{illegal};
+ghost use Rattle.rules.specs.Staged.{takeItems};
 ghost use Rattle.rules.specs.Sequential.{onAcceptLine, onRejectLine, itemDecides, judgeSequence};
-ghost use Rattle.rules.specs.Book.{within, _to_, couldHold, sequential};
-ghost use Rattle.rules.specs.Entries.{sequentialEntry, sequentialSample};
+ghost use Rattle.rules.specs.Book.{within, _to_, couldHold, reducedSingles, sequential};
+ghost use Rattle.rules.specs.Entries.{singleSample, sequentialEntry, sequentialSample};
 ghost use Rattle.samples.specs.Paper.{decisionPaper, endedAfter, sequentialPaper, paperOf};
+ghost use Rattle.samples.specs.Paper.{takenPaper, takenTotal};
+ghost use Rattle.plans.specs.Paper.{planPaper};
+use plans::SinglePlan;
 
 pub struct Verdict {
     pub accepted: bool,
@@ -148,4 +154,86 @@ pub fn sequential_sample(plan: SequentialPlan, sample: &[u8]) -> SampleAnswer
         return sequential_walk(plan, sample);
     }
     SampleAnswer::Refused(6, 0)
+}
+
+// What taking items comes to: one is missing, one is over 1 where items are 0 or 1, or a total and the place after.
+enum Taken {
+    Missing,
+    Over,
+    Total(u64, usize),
+}
+
+fn is_illegal(column: u32, item: u64) -> bool
+    ensures { λ r. ⌜ r ≡ illegal column item ⌝ }
+{
+    if 15 < column {
+        return false;
+    }
+    1 < item
+}
+
+// Takes k items from a place on, and adds them to a total.
+fn take_items(column: u32, k: usize, total: u64, sample: &[u8], from: usize) -> Taken
+    requires { ⌜ (k < 65536) × (from < 65536) × (total < 4294967296) ⌝ }
+    ensures { λ r. ⌜ (takenPaper r (now (sample .entry)) ≡ takeItems column k total (drop from (numbersOf (now (sample .entry)))))
+        × (takenTotal r ≤ total + 65535 * k) ⌝ }
+{
+    let count = numbers::count(sample);
+    let end = from + k;
+    let mut t = total;
+    let mut i = from;
+    while i < end {
+        if count <= i {
+            return Taken::Missing;
+        }
+        let item = numbers::number(sample, i);
+        if is_illegal(column, item) {
+            return Taken::Over;
+        }
+        t += item;
+        i += 1;
+    }
+    Taken::Total(t, end)
+}
+
+// Could a sound book hold the plan?
+fn single_held(n: u16, ac: u16) -> bool
+    ensures { λ r. ⌜ r ≡ couldHold reducedSingles (0 ∷ 0 ∷ n ∷ ac ∷ []) ⌝ }
+{
+    if n < 1 {
+        return false;
+    }
+    if 3150 < n {
+        return false;
+    }
+    ac < 65535
+}
+
+// A single sample, of exactly the plan's n items.
+pub fn single_sample(column: u32, plan: SinglePlan, sample: &[u8]) -> SampleAnswer
+    ensures { λ r. ⌜ paperOf r ≡ singleSample column (planPaper plan) (now (sample .entry)) ⌝ }
+{
+    if 25 < column {
+        return SampleAnswer::Refused(4, 0);
+    }
+    let n = plan.n;
+    let ac = plan.ac;
+    if !single_held(n, ac) {
+        return SampleAnswer::Refused(6, 0);
+    }
+    let k = n as usize;
+    if sample.len() != 2 * k {
+        return SampleAnswer::Refused(7, 0);
+    }
+    match take_items(column, k, 0, sample, 0) {
+        Taken::Missing => SampleAnswer::Refused(7, 0),
+        Taken::Over => SampleAnswer::Refused(8, 0),
+        Taken::Total(t, _) => SampleAnswer::Given(Verdict {
+            accepted: t <= ac as u64,
+            used: n as u32,
+            total: t,
+            stage: 1,
+            stages: 1,
+        }),
+    }
 }

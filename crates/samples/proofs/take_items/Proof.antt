@@ -1,0 +1,87 @@
+-- `samples::take_items` meets its contract: one law for each exit of the loop.
+-- Assumes nothing.
+use Prim.Native.Nat.{_+_, _-_, _*_, _≤_}
+use mathlib.Core.Path.{sym, _∙_}
+use borrow.Author.Needs.{needs}
+use native.Mathlib.Omega.{arith}
+use Rattle.rules.specs.Numbers.{numbersOf}
+use Rattle.rules.proofs.SampleSteps.{TakingAt, taking-start, taking-done, taking-missing, taking-over, taking-item}
+use Rattle.samples.proofs.take_items.Statement.{statement}
+use Rattle.samples.proofs.take_items.Tie as tie
+
+abbrev Inv-loop : tie.InvT-loop
+Inv-loop column k total sample from count end t₀ i₀ t i =
+    (from ≤ i) × (i ≤ end) × (t ≤ total + 65535 * (i - from))
+    × TakingAt column k total from (numbersOf sample) i t
+
+abbrev μ-loop : tie.MeasureT-loop
+μ-loop column k total sample from count end t₀ i₀ t i = end - i
+
+count-requires : tie.Need-count-requires Inv-loop μ-loop
+count-requires c κs = search needs
+
+add-end : tie.Need-add-end Inv-loop μ-loop
+add-end c = omega arith
+
+loop-holds : tie.Need-loop-holds Inv-loop μ-loop
+loop-holds c = (omega arith, omega arith, omega arith, taking-start _ _ _ _ _)
+
+returns : tie.Need-returns Inv-loop μ-loop
+returns c =
+    let at = c .before .before in
+    (sym (taking-missing (at .loop .inv .3) (omega arith) (omega (arith, at .before .count .ensures))), omega arith)
+
+number-requires : tie.Need-number-requires Inv-loop μ-loop
+number-requires c κs = search needs
+
+is-illegal-requires : tie.Need-is-illegal-requires Inv-loop μ-loop
+is-illegal-requires c κs = search needs
+
+returns-2 : tie.Need-returns-2 Inv-loop μ-loop
+returns-2 c =
+    let at = c .before .before .before .before .before in (
+      sym (taking-over (at .loop .inv .3) (omega arith) (omega (arith, at .before .count .ensures))
+          (c .before .before .number .ensures .0) (sym (c .before .is-illegal .ensures) ∙ c .if2 .taken)),
+      omega arith,
+    )
+
+add-t : tie.Need-add-t Inv-loop μ-loop
+add-t c = omega arith
+
+add-i : tie.Need-add-i Inv-loop μ-loop
+add-i c = omega arith
+
+loop-less : tie.Need-loop-less Inv-loop μ-loop
+loop-less c = omega arith
+
+loop-again : tie.Need-loop-again Inv-loop μ-loop
+loop-again c =
+    let at = c .before .before .before .before .before in (
+      omega arith,
+      omega arith,
+      omega arith,
+      taking-item (at .loop .inv .3) (omega arith) (omega (arith, at .before .count .ensures))
+          (c .before .before .number .ensures .0) (sym (c .before .is-illegal .ensures) ∙ c .if2 .left),
+    )
+
+returns-3 : tie.Need-returns-3 Inv-loop μ-loop
+returns-3 c = (sym (taking-done (c .before .loop .inv .3) (omega arith)), omega arith)
+
+pub take-items-spec : {M : Type 1} → statement M
+take-items-spec =
+    tie.close
+    (tie.spec
+    Inv-loop
+    μ-loop
+    count-requires
+    add-end
+    loop-holds
+    returns
+    number-requires
+    is-illegal-requires
+    returns-2
+    add-t
+    add-i
+    loop-less
+    loop-again
+    returns-3)
