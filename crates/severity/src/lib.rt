@@ -7,8 +7,8 @@ ghost use lib.ListN.{length};
 ghost use Rattle.rules.specs.Refusals.{given};
 ghost use Rattle.rules.specs.Severity.{accepted, started, fresh, due, settled, scoreAfter, windowAfter, lotNormal};
 ghost use Rattle.rules.specs.Severity.{lotTightened, onLot, onResubmitted, onOrder, onCorrective, step, inRange};
-ghost use Rattle.rules.specs.Severity.{onTightened, scoreAndWindow, noScoreOrWindow, runAndCount, noRunOrCount};
-ghost use Rattle.rules.specs.Severity.{counted, singlePoints, stagedPoints};
+ghost use Rattle.rules.specs.Severity.{onNormal, onTightened, scoreAndWindow, noScoreOrWindow, runAndCount};
+ghost use Rattle.rules.specs.Severity.{noRunOrCount, counted, singlePoints, stagedPoints};
 ghost use Rattle.rules.specs.History.{ours, eventIn};
 ghost use Rattle.rules.specs.Entries.{onRecord, next};
 ghost use Rattle.severity.specs.Paper.{paperLot, paperEvent, paperRecord, paperStepped, paperListed};
@@ -60,7 +60,7 @@ pub enum Listed {
     Given(usize),
 }
 
-// A stay that starts: "score, run, window and count cleared; steady and permission stay".
+// Reduced or stopped, which keep no figure.
 fn start(severity: u8, steady: bool, permission: bool) -> Record
     ensures { λ r. ⌜ paperRecord r ≡ started severity steady permission ⌝ }
 {
@@ -75,10 +75,38 @@ fn start(severity: u8, steady: bool, permission: bool) -> Record
     }
 }
 
+fn normal(score: u8, window: u8, steady: bool, permission: bool) -> Record
+    ensures { λ r. ⌜ paperRecord r ≡ onNormal score window steady permission ⌝ }
+{
+    Record {
+        severity: 0,
+        score,
+        run: 0,
+        count: 0,
+        window,
+        steady,
+        permission,
+    }
+}
+
+fn tightened(run: u8, count: u8, steady: bool, permission: bool) -> Record
+    ensures { λ r. ⌜ paperRecord r ≡ onTightened run count steady permission ⌝ }
+{
+    Record {
+        severity: 1,
+        score: 0,
+        run,
+        count,
+        window: 0,
+        steady,
+        permission,
+    }
+}
+
 pub fn fresh() -> Record
     ensures { λ r. ⌜ paperRecord r ≡ fresh (ours .permission) ⌝ }
 {
-    start(0, false, false)
+    normal(0, 0, false, false)
 }
 
 fn is_due(score: u8, steady: bool, permission: bool) -> bool
@@ -100,15 +128,7 @@ fn settle(score: u8, window: u8, steady: bool, permission: bool) -> Record
     if is_due(score, steady, permission) {
         return start(2, steady, permission);
     }
-    Record {
-        severity: 0,
-        score,
-        run: 0,
-        count: 0,
-        window,
-        steady,
-        permission,
-    }
+    normal(score, window, steady, permission)
 }
 
 fn is_accepted(lot: Lot) -> bool
@@ -162,23 +182,9 @@ fn lot_normal(lot: Lot, score: u8, window: u8, steady: bool, permission: bool) -
         return settle(score_after(lot, score), shifted, steady, permission);
     }
     if 2 <= u8::count_ones(shifted) {
-        return start(1, steady, permission);
+        return tightened(0, 0, steady, permission);
     }
     settle(0, shifted, steady, permission)
-}
-
-fn tightened(run: u8, count: u8, steady: bool, permission: bool) -> Record
-    ensures { λ r. ⌜ paperRecord r ≡ onTightened run count steady permission ⌝ }
-{
-    Record {
-        severity: 1,
-        score: 0,
-        run,
-        count,
-        window: 0,
-        steady,
-        permission,
-    }
 }
 
 fn lot_tightened(lot: Lot, run: u8, count: u8, steady: bool, permission: bool) -> Record
@@ -186,7 +192,7 @@ fn lot_tightened(lot: Lot, run: u8, count: u8, steady: bool, permission: bool) -
 {
     if is_accepted(lot) {
         if 4 <= run {
-            return start(0, steady, permission);
+            return normal(0, 0, steady, permission);
         }
         return tightened(run + 1, count, steady, permission);
     }
@@ -209,7 +215,7 @@ fn on_lot(old: Record, lot: Lot) -> Stepped
         if is_accepted(lot) {
             return Stepped::Given(old);
         }
-        return Stepped::Given(start(0, old.steady, old.permission));
+        return Stepped::Given(normal(0, 0, old.steady, old.permission));
     }
     Stepped::Refused(5, 0)
 }
@@ -237,7 +243,7 @@ fn on_order(old: Record, stands: bool, steady: bool, permission: bool) -> Record
         if stands {
             return start(2, steady, permission);
         }
-        return start(0, steady, permission);
+        return normal(0, 0, steady, permission);
     }
     start(3, steady, permission)
 }
@@ -246,7 +252,7 @@ fn on_corrective(old: Record) -> Stepped
     ensures { λ r. ⌜ paperStepped r ≡ onCorrective (old .severity) (paperRecord old) ⌝ }
 {
     if 3 <= old.severity {
-        return Stepped::Given(start(1, old.steady, old.permission));
+        return Stepped::Given(tightened(0, 0, old.steady, old.permission));
     }
     Stepped::Refused(10, 0)
 }
@@ -393,19 +399,19 @@ fn write_severities(history: &[u8], out: &mut [u8], from: Record)
     requires { ⌜ Writable (paperRecord from) (now history) (now out) ⌝ }
     ensures { λ _. ⌜ Writes (paperRecord from) (now (history .entry)) (now (out .entry)) (now (out .exit)) ⌝ }
 {
-    let mut old = from;
+    let mut held = from;
     let mut i: usize = 0;
     while i < history.len() {
-        let answer = step_byte(old, history[i]);
+        let answer = step_byte(held, history[i]);
         match answer {
             Stepped::Given(new) => {
-                old = new;
+                held = new;
             }
             Stepped::Refused(_, _) => {
                 return;
             }
         }
-        out[i] = old.severity;
+        out[i] = held.severity;
         i += 1;
     }
 }

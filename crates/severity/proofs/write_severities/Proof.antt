@@ -15,14 +15,14 @@ use Rattle.severity.proofs.write_severities.Lts as lts
 use Rattle.severity.proofs.step_byte.Reads as step-byte-reads
 
 abbrev Inv-loop : tie.InvT-loop
-Inv-loop history out₀ old₀ i₀ out old i =
+Inv-loop history out₀ held₀ i₀ out held i =
     (i ≤ length history)
-    × (From ours history (paperRecord old₀) i ≡ given (paperRecord old))
-    × (out ≡ writtenFrom (paperRecord old₀) history out₀ i)
+    × (From ours history (paperRecord held₀) i ≡ given (paperRecord held))
+    × (out ≡ writtenFrom (paperRecord held₀) history out₀ i)
     × (length out ≡ length out₀)
 
 abbrev μ-loop : tie.MeasureT-loop
-μ-loop history out₀ old₀ i₀ out old i = length history - i
+μ-loop history out₀ held₀ i₀ out held i = length history - i
 
 -- src/lib.rt:397:5
 loop-holds : tie.Need-loop-holds Inv-loop μ-loop
