@@ -177,7 +177,7 @@ by-stage-as b p q r =
     }
 
 -- what stands where in the lists of a plan
-every-length : (p s n : ℕ) (e : List ℕ) → length (every p s n e) ≡ n
+pub every-length : (p s n : ℕ) (e : List ℕ) → length (every p s n e) ≡ n
 unfolding every
 every-length p s zero e = refl
 every-length p s (suc n) e = ap suc (every-length (p + s) s n e)

@@ -1,10 +1,10 @@
 -- What holds of each of the four kinds of section, proved once for all of them.
 -- Assumes nothing.
-use Prim.Native.Nat.{ℕ, zero, suc, _+_, _*_, _/_, _%_, _<_, _≤_}
+use Prim.Native.Nat.{ℕ, zero, suc, _<_, _≤_}
 use mathlib.Core.Path.{_≡_, refl}
 use lib.ListN.{getD, List·getD-eq-default}
 use native.Mathlib.Omega.{arith}
-use Rattle.rules.specs.Book.{kindAt, Range, anything, itemColumn, reducedSingles, staged, sequential, variables}
+use Rattle.rules.specs.Book.{kindAt, anything, itemColumn, reducedSingles, staged, sequential, variables}
 
 pub each-kind : (P : ℕ → Type 0) → P 0 → P 1 → P 2 → P 3 → (n : ℕ) → n < 4 → P n
 each-kind P a b c d zero h = a
@@ -24,16 +24,6 @@ range-past i h =
     (List·getD-eq-default (staged .ranges) anything {n = i} (omega arith))
     (List·getD-eq-default (sequential .ranges) anything {n = i} (omega arith))
     (List·getD-eq-default (variables .ranges) anything {n = i} (omega arith))
-
--- the range at a place of a table with eight places a kind
-abbrev pub rangeAt : ℕ → Range
-rangeAt n = getD (kindAt (n / 8) .ranges) (n % 8) anything
-
-pub range-at : (n i : ℕ) → i < 8 → rangeAt (8 * n + i) ≡ getD (kindAt n .ranges) i anything
-range-at n i h =
-    let p : (8 * n + i) / 8 ≡ n = omega arith in
-    let q : (8 * n + i) % 8 ≡ i = omega arith in
-    rw (p, q)
 
 pub key-three : (n : ℕ) → n < 4 → (kindAt n .key ≡ 2 → ⊥) → kindAt n .key ≡ 3
 key-three =

@@ -264,7 +264,15 @@ every p s (suc n) e = getD e p 0 ∷ every (p + s) s n e
 abbrev pub seven : List ℕ → List ℕ
 seven xs = xs ++ replicate (7 - length xs) 0
 
+-- A reduced single, as a book holds it.
+pub record ReducedSingle : Type 0 where
+  pub n : ℕ
+  pub ac : ℕ
+
 -- the plans that entries hold
+abbrev pub reducedOf : List ℕ → ReducedSingle
+reducedOf e = record { n = getD e 2 0; ac = getD e 3 0 }
+
 abbrev pub stagedOf : List ℕ → StagedPlan
 stagedOf e =
     record {

@@ -17,7 +17,7 @@ use Rattle.rules.specs.Severity.{Lot, sampled, Event, lot, resubmitted, 
 use Rattle.rules.specs.Severity.{singlePoints, stagedPoints}
 use Rattle.rules.specs.History.{Work, eventIn}
 use Rattle.rules.specs.Book.{Kind, reducedSingles, staged, sequential, variables, couldHold, Found, found}
-use Rattle.rules.specs.Book.{nothing, lookUp, checkBook, onSound, stagedOf, sequentialOf, variablesOf}
+use Rattle.rules.specs.Book.{nothing, lookUp, checkBook, onSound, reducedOf, stagedOf, sequentialOf, variablesOf}
 use Rattle.rules.specs.Numbers.{numbersOf}
 
 -- The numbers of a plan as an entry of its kind, under any key.
@@ -106,7 +106,7 @@ unlessAbove lotSize needed plan = firstOf ((ltb lotSize needed gives noPlan) ∷
 -- "Reduced singles come from the plan book, by the Table 1 letter; a size at or above the lot is cut alike."
 abbrev pub reducedPlan : Asked → List ℕ → Plan
 reducedPlan q e =
-    record { letter = letterOf (q .size) (q .level); n = cutTo (q .size) (getD e 2 0); ac = getD e 3 0 }
+    record { letter = letterOf (q .size) (q .level); n = cutTo (q .size) (reducedOf e .n); ac = reducedOf e .ac }
 
 -- single_plan
 unfoldable pub singlePlan : Asked → List ℕ → Answer Plan

@@ -1,0 +1,4 @@
+pub mod Found
+pub mod Held
+pub mod OneResult
+pub mod Seven

@@ -1,0 +1,122 @@
+-- `book::find_sequential` meets its contract.
+-- Assumes nothing.
+use mathlib.Core.Path.{ap, _∙_}
+use native.Mathlib.Omega.{arith}
+use denote.Ref.{now}
+use Rattle.rules.specs.Book.{sequentialOf}
+use Rattle.rules.proofs.Numbers.{numbers-low}
+use Rattle.book.specs.Paper.{placeNo}
+use Rattle.book.proofs.Held.{on-broken, on-nothing, on-entry, entry-number}
+use borrow.Author.Needs.{needs}
+use Rattle.book.proofs.find_sequential.Statement.{statement}
+use Rattle.book.proofs.find_sequential.Tie as tie
+
+find-requires : tie.Need-find-requires
+find-requires c κs = search needs
+
+enum-known-byte : tie.Need-enum-known-byte
+enum-known-byte c = search needs
+
+enum-told : tie.Need-enum-told
+enum-told c = search needs
+
+enum-known-p : tie.Need-enum-known-p
+enum-known-p c = search needs
+
+mul-from : tie.Need-mul-from
+mul-from c =
+    omega (
+      arith,
+      c .before .before .before .find .ensures .near,
+      ap placeNo (c .before .p .given .1),
+      numbers-low (now (c .before .before .before .before .before .args .book)),
+    )
+
+sub-e : tie.Need-sub-e
+sub-e c =
+    omega (
+      arith,
+      c .before .before .before .find .ensures .near,
+      ap placeNo (c .before .p .given .1),
+      numbers-low (now (c .before .before .before .before .before .args .book)),
+    )
+
+part-e-start : tie.Need-part-e-start
+part-e-start c =
+    omega (
+      arith,
+      c .before .before .before .find .ensures .near,
+      ap placeNo (c .before .p .given .1),
+      numbers-low (now (c .before .before .before .before .before .args .book)),
+    )
+
+part-e-end : tie.Need-part-e-end
+part-e-end c = search needs
+
+number16-requires : tie.Need-number16-requires
+number16-requires c κs = search needs
+
+number16-requires-2 : tie.Need-number16-requires-2
+number16-requires-2 c κs = search needs
+
+number16-requires-3 : tie.Need-number16-requires-3
+number16-requires-3 c κs = search needs
+
+number16-requires-4 : tie.Need-number16-requires-4
+number16-requires-4 c κs = search needs
+
+number16-requires-5 : tie.Need-number16-requires-5
+number16-requires-5 c κs = search needs
+
+returns : tie.Need-returns
+returns c =
+    let a = c .before .before .before .before .before .args in
+    let s = now (a .book) in
+    let f = c .before .before .before .find in
+    on-broken sequentialOf 2 (a .severity) (a .letter) (a .column) s (f .result) (f .ensures .holds) _
+    (c .before .byte .given .1)
+
+returns-2 : tie.Need-returns-2
+returns-2 c =
+    let a = c .before .before .before .before .args in
+    let s = now (a .book) in
+    let f = c .before .before .find in
+    on-nothing sequentialOf 2 (a .severity) (a .letter) (a .column) s (f .result) (f .ensures .holds)
+    (c .enum-told .given .1)
+
+returns-3 : tie.Need-returns-3
+returns-3 c =
+    let a = c .before .before .before .before .before .before .before .before .before .before .before .args in
+    let s = now (a .book) in
+    let f = c .before .before .before .before .before .before .before .before .before .find in
+    let p = c .before .before .before .before .before .before .before .p .given .0 .0 in
+    rw (
+      c .before .before .before .before .number16 .ensures ∙ entry-number s p 3 8 (omega arith),
+      c .before .before .before .number162 .ensures ∙ entry-number s p 4 8 (omega arith),
+      c .before .before .number163 .ensures ∙ entry-number s p 5 8 (omega arith),
+      c .before .number164 .ensures ∙ entry-number s p 6 8 (omega arith),
+      c .number165 .ensures ∙ entry-number s p 7 8 (omega arith),
+    )
+    (on-entry sequentialOf 2 (a .severity) (a .letter) (a .column) s (f .result) (f .ensures .holds) p
+    (c .before .before .before .before .before .before .before .p .given .1))
+
+pub find-sequential-spec : {M : Type 1} → statement M
+find-sequential-spec =
+    tie.close
+    (tie.spec
+    find-requires
+    enum-known-byte
+    enum-told
+    enum-known-p
+    mul-from
+    sub-e
+    part-e-start
+    part-e-end
+    number16-requires
+    number16-requires-2
+    number16-requires-3
+    number16-requires-4
+    number16-requires-5
+    returns
+    returns-2
+    returns-3)

@@ -1,0 +1,48 @@
+-- `book::right_at` meets its contract.
+-- Assumes nothing.
+use mathlib.Core.Path.{_≡_, sym, ap, _∙_}
+use mathlib.Core.Bool.{true, false}
+use borrow.Author.Needs.{needs}
+use denote.Ref.{now}
+use lib.ListN.{getD, take}
+use Rattle.rules.specs.Numbers.{numbersOf}
+use Rattle.rules.specs.Book.{kindAt, within, anything}
+use Rattle.rules.proofs.Steps.{right-by, wrong-by}
+use Rattle.book.proofs.right_at.Statement.{statement}
+use Rattle.book.proofs.right_at.Tie as tie
+
+number-requires : tie.Need-number-requires
+number-requires c κs = search needs
+
+in-range-requires : tie.Need-in-range-requires
+in-range-requires c κs = search needs
+
+rule-requires : tie.Need-rule-requires
+rule-requires c κs = search needs
+
+returns : tie.Need-returns
+returns c =
+    let a = c .before .before .before .before .before in
+    let k = kindAt (a .args .kind) in
+    let e = numbersOf (now (a .args .e)) in
+    let i = a .args .i in
+    let x = c .before .before .before .number .ensures .0 in
+    let w : within (getD (k .ranges) i anything) (getD e i 0) ≡ true =
+    ap (within (getD (k .ranges) i anything)) (sym x) ∙ sym (c .before .before .in-range .ensures)
+    ∙ c .before .if1 .taken in
+    c .rule .ensures ∙ ap (k .rule (take i e)) x ∙ sym (right-by k e i w)
+
+returns-2 : tie.Need-returns-2
+returns-2 c =
+    let a = c .before .before .before .before in
+    let k = kindAt (a .args .kind) in
+    let e = numbersOf (now (a .args .e)) in
+    let i = a .args .i in
+    let x = c .before .before .number .ensures .0 in
+    let w : within (getD (k .ranges) i anything) (getD e i 0) ≡ false =
+    ap (within (getD (k .ranges) i anything)) (sym x) ∙ sym (c .before .in-range .ensures) ∙ c .if1 .left in
+    sym (wrong-by k e i w)
+
+pub right-at-spec : {M : Type 1} → statement M
+right-at-spec =
+    tie.close (tie.spec number-requires in-range-requires rule-requires returns returns-2)

@@ -1,0 +1,658 @@
+// The plan book of document 01. Each section is checked as its own stretch of the book, and the entry under a key is
+// found on the way.
+ghost use mathlib.Core.Path.{_≡_};
+ghost use mathlib.Core.Bool.{cond, _||_};
+ghost use lib.Dec.{eqb, ltb};
+ghost use Prim.Native.Nat.{_+_, _-_, _≤_, _<_};
+ghost use lib.ListN.{length, getD, take, drop};
+ghost use Rattle.rules.specs.Refusals.{refused, given};
+ghost use Rattle.rules.specs.Numbers.{numbersOf};
+ghost use Rattle.rules.specs.Codes.{reduced};
+ghost use Rattle.rules.specs.Staged.{mark};
+ghost use Rattle.rules.specs.Book.{kindAt, within, anything, right, keyFalls};
+ghost use Rattle.rules.specs.Book.{acKeeps, reKeeps, stagedNumber, stagedRule, atFits, sequentialRule};
+ghost use Rattle.rules.specs.Book.{checkBook, onSound, staged, every, seven};
+ghost use Rattle.rules.specs.Book.{reducedOf, stagedOf, sequentialOf, variablesOf};
+ghost use Rattle.rules.specs.Layout.{entryOf};
+ghost use Rattle.rules.specs.Entries.{reducedSection, stagedSection, sequentialSection, variablesSection};
+ghost use Rattle.book.specs.Paper.{walkOf, entryRead, risesAfter, keyAt, entryAfter, underAt};
+ghost use Rattle.book.specs.Paper.{foundAt, foundUnder, orElse, SectionRead, SectionsRead, heldAt, Finds, heldIn};
+ghost use Rattle.book.specs.Paper.{bookPaper, reducedPaper, sequentialPaper, variablesPaper, stagedPaper, beside};
+
+// The four kinds of section are data, a row for each in the book's order.
+// How many numbers a key has.
+const KEY: [u8; 4] = [2, 3, 3, 3];
+
+// How many numbers an entry has: so many, and so many more for each one that the number after its key counts.
+const FIXED: [u8; 4] = [4, 4, 8, 5];
+
+const EACH: [u8; 4] = [0, 3, 0, 0];
+
+// The ranges of the first eight numbers of an entry; past them, whatever fits.
+const LOW: [[u8; 8]; 4] = [
+    [0, 0, 1, 0, 0, 0, 0, 0],
+    [0, 0, 0, 2, 0, 0, 0, 0],
+    [0, 0, 0, 1, 1, 1, 1, 0],
+    [0, 0, 0, 2, 1, 0, 0, 0],
+];
+
+const HIGH: [[u16; 8]; 4] = [
+    [15, 25, 3150, 65534, 65535, 65535, 65535, 65535],
+    [2, 15, 25, 7, 65535, 65535, 65535, 65535],
+    [2, 15, 15, 65535, 65535, 60000, 3150, 65535],
+    [2, 15, 15, 50, 4000, 65535, 65535, 65535],
+];
+
+fn key_len(kind: usize) -> usize
+    requires { ⌜ kind < 4 ⌝ }
+    ensures { λ r. ⌜ (r ≡ kindAt kind .key) × (r ≤ 3) ⌝ }
+{
+    KEY[kind] as usize
+}
+
+fn entry_size(kind: usize, after: u64) -> usize
+    requires { ⌜ (kind < 4) × (after < 65536) ⌝ }
+    ensures { λ r. ⌜ (r ≡ kindAt kind .size after) × (r < 200000) ⌝ }
+{
+    let fixed = FIXED[kind] as usize;
+    let each = EACH[kind] as usize;
+    fixed + each * (after as usize)
+}
+
+// Is x within the range of the number at place i of an entry?
+fn in_range(kind: usize, i: usize, x: u64) -> bool
+    requires { ⌜ (kind < 4) × (x < 65536) ⌝ }
+    ensures { λ r. ⌜ r ≡ within (getD (kindAt kind .ranges) i anything) x ⌝ }
+{
+    if 8 <= i {
+        return true;
+    }
+    let low = LOW[kind][i] as u64;
+    let high = HIGH[kind][i] as u64;
+    if x < low {
+        return false;
+    }
+    x <= high
+}
+
+// An Ac that is a number does not fall; a mark stands only before numbers, and not at the last stage.
+fn ac_keeps(first: bool, last: bool, before: u64, ac: u64) -> bool
+    ensures { λ r. ⌜ r ≡ acKeeps first last before ac ⌝ }
+{
+    if ac == 65535 {
+        if last {
+            return false;
+        }
+        if first {
+            return true;
+        }
+        return before == 65535;
+    }
+    if first {
+        return true;
+    }
+    if before == 65535 {
+        return true;
+    }
+    before <= ac
+}
+
+// Re does not fall, and keeps its rule with Ac.
+fn re_keeps(first: bool, last: bool, before: u64, ac: u64, re: u64) -> bool
+    requires { ⌜ ac < 65536 ⌝ }
+    ensures { λ r. ⌜ r ≡ reKeeps first last before ac re ⌝ }
+{
+    if 65534 < re {
+        return false;
+    }
+    if first {
+        return re_over(last, ac, re);
+    }
+    if re < before {
+        return false;
+    }
+    re_over(last, ac, re)
+}
+
+// Re is over Ac, at the last stage by one; a mark is exempt.
+fn re_over(last: bool, ac: u64, re: u64) -> bool
+    requires { ⌜ ac < 65536 ⌝ }
+    ensures { λ r. ⌜ r ≡ (eqb ac mark || cond last (eqb re (ac + 1)) (ltb ac re)) ⌝ }
+{
+    if ac == 65535 {
+        return true;
+    }
+    if last {
+        return re == ac + 1;
+    }
+    ac < re
+}
+
+// The number x at place i of an entry of m stages, after the numbers two places and one place before it.
+fn staged_number(i: usize, m: u64, two: u64, one: u64, x: u64) -> bool
+    requires { ⌜ (m < 65536) × (one < 65536) ⌝ }
+    ensures { λ r. ⌜ r ≡ stagedNumber i m two one x ⌝ }
+{
+    let stages = m as usize;
+    let start = 4 + stages;
+    if i < start {
+        if x < 1 {
+            return false;
+        }
+        return x <= 2000;
+    }
+    let j = i - start;
+    let stage = j / 2;
+    let first = stage == 0;
+    let last = stage + 1 == stages;
+    if j % 2 == 0 {
+        return ac_keeps(first, last, two, x);
+    }
+    re_keeps(first, last, two, one, x)
+}
+
+fn staged_rule(e: &[u8], i: usize, x: u64) -> bool
+    requires { ⌜ i < length (numbersOf (now e)) ⌝ }
+    ensures { λ r. ⌜ r ≡ stagedRule (take i (numbersOf (now (e .entry)))) x ⌝ }
+{
+    if i < 4 {
+        return true;
+    }
+    let m = numbers::number(e, 3);
+    let two = numbers::number(e, i - 2);
+    let one = numbers::number(e, i - 1);
+    staged_number(i, m, two, one, x)
+}
+
+// a - b, and 0 where that is below 0
+fn cut(a: u64, b: u64) -> u64
+    ensures { λ r. ⌜ r ≡ a - b ⌝ }
+{
+    if b < a { a - b } else { 0 }
+}
+
+// At lies between the two lines at nt.
+fn at_fits(ha: u64, hr: u64, g: u64, nt: u64, at: u64) -> bool
+    requires { ⌜ (ha < 65536) × ((hr < 65536) × ((g < 65536) × (nt < 65536))) ⌝ }
+    ensures { λ r. ⌜ r ≡ atFits ha hr g nt at ⌝ }
+{
+    let gn = g * nt;
+    let over = gn + 100 * hr + 99999;
+    let under = cut(gn, 100 * ha);
+    if at < under / 100000 {
+        return false;
+    }
+    at < over / 100000
+}
+
+fn sequential_rule(e: &[u8], i: usize, x: u64) -> bool
+    requires { ⌜ i < length (numbersOf (now e)) ⌝ }
+    ensures { λ r. ⌜ r ≡ sequentialRule (take i (numbersOf (now (e .entry)))) x ⌝ }
+{
+    if i == 7 {
+        let ha = numbers::number(e, 3);
+        let hr = numbers::number(e, 4);
+        let g = numbers::number(e, 5);
+        let nt = numbers::number(e, 6);
+        return at_fits(ha, hr, g, nt, x);
+    }
+    true
+}
+
+// Does x at place i keep the rules that it has with the entry's numbers before it?
+fn rule(kind: usize, e: &[u8], i: usize, x: u64) -> bool
+    requires { ⌜ (kind < 4) × (i < length (numbersOf (now e))) ⌝ }
+    ensures { λ r. ⌜ r ≡ kindAt kind .rule (take i (numbersOf (now (e .entry)))) x ⌝ }
+{
+    if kind == 1 {
+        return staged_rule(e, i, x);
+    }
+    if kind == 2 {
+        return sequential_rule(e, i, x);
+    }
+    true
+}
+
+// Is the number at place i of the entry right?
+fn right_at(kind: usize, e: &[u8], i: usize) -> bool
+    requires { ⌜ (kind < 4) × (i < length (numbersOf (now e))) ⌝ }
+    ensures { λ r. ⌜ r ≡ right (kindAt kind) (numbersOf (now (e .entry))) i ⌝ }
+{
+    let x = numbers::number(e, i);
+    if in_range(kind, i, x) {
+        return rule(kind, e, i, x);
+    }
+    false
+}
+
+// What reading an entry comes to; the place is counted in numbers from the entry's start.
+pub enum Walk {
+    Ends(usize),
+    Broken(usize),
+    Short,
+}
+
+// The numbers of the entry that the stretch begins with: the first that is missing or not right, or the entry's end.
+fn entry_numbers(kind: usize, e: &[u8]) -> Walk
+    requires { ⌜ kind < 4 ⌝ }
+    ensures { λ r. ⌜ walkOf r ≡ entryRead kind (numbersOf (now (e .entry))) ⌝ }
+{
+    let key = key_len(kind);
+    let after = numbers::number(e, key);
+    let size = entry_size(kind, after);
+    let have = numbers::count(e);
+    let mut i = 0;
+    while i < size {
+        if have <= i {
+            return Walk::Short;
+        }
+        if right_at(kind, e, i) {
+            i += 1;
+        } else {
+            return Walk::Broken(i);
+        }
+    }
+    Walk::Ends(size)
+}
+
+// Does the key of the entry that b begins with come after that of a?
+fn rises_after(kind: usize, a: &[u8], b: &[u8]) -> bool
+    requires { ⌜ (kind < 4) × (kindAt kind .key ≤ length (numbersOf (now b))) ⌝ }
+    ensures { λ r. ⌜ r ≡ risesAfter kind (numbersOf (now (a .entry))) (numbersOf (now (b .entry))) ⌝ }
+{
+    let key = key_len(kind);
+    let have = numbers::count(a);
+    let mut i = 0;
+    while i < key {
+        if have <= i {
+            return true;
+        }
+        let x = numbers::number(a, i);
+        let y = numbers::number(b, i);
+        if x < y {
+            return true;
+        }
+        if y < x {
+            return false;
+        }
+        i += 1;
+    }
+    false
+}
+
+// Is the whole key of the entry at a place there, and does it not rise over that of the entry at prev (0: there is
+// none)?
+fn key_falls(kind: usize, part: &[u8], prev: usize, at: usize) -> bool
+    requires { ⌜ (kind < 4) × ((prev ≤ at) × (at ≤ length (numbersOf (now part)))) ⌝ }
+    ensures { λ r. ⌜ r
+        ≡ keyFalls (kindAt kind) (keyAt (kindAt kind) prev (numbersOf (now (part .entry))))
+        (drop at (numbersOf (now (part .entry)))) ⌝ }
+{
+    let from = 2 * at;
+    let e = &part[from..];
+    if numbers::count(e) < key_len(kind) {
+        return false;
+    }
+    if prev == 0 {
+        return false;
+    }
+    let back = 2 * prev;
+    if rises_after(kind, &part[back..], e) {
+        return false;
+    }
+    true
+}
+
+// The entry at a place of a section.
+fn entry_at(kind: usize, part: &[u8], prev: usize, at: usize) -> Walk
+    requires { ⌜ (kind < 4) × ((prev ≤ at) × (at ≤ length (numbersOf (now part)))) ⌝ }
+    ensures { λ r. ⌜ walkOf r ≡ entryAfter kind prev at (numbersOf (now (part .entry))) ⌝ }
+{
+    if key_falls(kind, part, prev, at) {
+        return Walk::Broken(0);
+    }
+    let from = 2 * at;
+    entry_numbers(kind, &part[from..])
+}
+
+// Is the entry at a place under the key?
+fn under(kind: usize, part: &[u8], at: usize, severity: u64, letter: u64, column: u64) -> bool
+    requires { ⌜ (kind < 4) × (at + kindAt kind .key ≤ length (numbersOf (now part))) ⌝ }
+    ensures { λ r. ⌜ r ≡ underAt kind at severity letter column (numbersOf (now (part .entry))) ⌝ }
+{
+    if key_len(kind) == 2 {
+        if numbers::number(part, at) != letter {
+            return false;
+        }
+        return numbers::number(part, at + 1) == column;
+    }
+    if numbers::number(part, at) != severity {
+        return false;
+    }
+    if numbers::number(part, at + 1) != letter {
+        return false;
+    }
+    numbers::number(part, at + 2) == column
+}
+
+// The first entry under the key: the one seen before (0: none was), or the one at a place.
+fn first_under(
+    kind: usize,
+    part: &[u8],
+    seen: usize,
+    at: usize,
+    severity: u64,
+    letter: u64,
+    column: u64,
+) -> usize
+    requires { ⌜ (kind < 4) × ((1 ≤ at) × ((seen ≤ at) × (at + kindAt kind .key ≤ length (numbersOf (now part))))) ⌝ }
+    ensures { λ r. ⌜ (r ≤ at)
+        × (foundAt (kindAt kind) r (numbersOf (now (part .entry)))
+        ≡ orElse (foundAt (kindAt kind) seen (numbersOf (now (part .entry))))
+        (foundUnder kind at severity letter column (numbersOf (now (part .entry))))) ⌝ }
+{
+    if seen != 0 {
+        return seen;
+    }
+    if under(kind, part, at, severity, letter, column) {
+        return at;
+    }
+    0
+}
+
+// What reading sections comes to: their end, with the place of the entry under the key (0: none is), in numbers from
+// the start.
+pub enum Stretch {
+    Ends(usize, usize),
+    Broken(usize),
+    Short,
+}
+
+// A section, from the start of the part.
+fn check_section(kind: usize, part: &[u8], severity: u64, letter: u64, column: u64) -> Stretch
+    requires { ⌜ kind < 4 ⌝ }
+    ensures { λ r. ⌜ SectionRead kind severity letter column (numbersOf (now (part .entry))) r ⌝ }
+{
+    if numbers::count(part) == 0 {
+        return Stretch::Short;
+    }
+    let entries = numbers::number(part, 0);
+    let mut prev = 0;
+    let mut at = 1;
+    let mut seen = 0;
+    let mut i = 0;
+    while i < entries {
+        match entry_at(kind, part, prev, at) {
+            Walk::Ends(size) => {
+                seen = first_under(kind, part, seen, at, severity, letter, column);
+                prev = at;
+                at += size;
+                i += 1;
+            }
+            Walk::Broken(p) => {
+                return Stretch::Broken(at + p);
+            }
+            Walk::Short => {
+                return Stretch::Short;
+            }
+        }
+    }
+    Stretch::Ends(at, seen)
+}
+
+// The place of the entry that is asked for: in its own section, which starts at a place, the one seen there.
+fn held_place(kind: usize, asked: usize, held: usize, at: usize, seen: usize) -> usize
+    requires { ⌜ at + seen < 10000000000000000000 ⌝ }
+    ensures { λ r. ⌜ r ≡ heldAt kind asked held at seen ⌝ }
+{
+    if kind != asked {
+        return held;
+    }
+    if seen == 0 {
+        return 0;
+    }
+    at + seen
+}
+
+// The four sections, each as its own part of the book; what stands under the key in the one that is asked for.
+fn check_sections(book: &[u8], asked: usize, severity: u64, letter: u64, column: u64) -> Stretch
+    requires { ⌜ asked < 4 ⌝ }
+    ensures { λ r. ⌜ SectionsRead asked severity letter column (numbersOf (now (book .entry))) r ⌝ }
+{
+    let mut at = 0;
+    let mut held = 0;
+    let mut kind = 0;
+    while kind < 4 {
+        let from = 2 * at;
+        match check_section(kind, &book[from..], severity, letter, column) {
+            Stretch::Ends(size, seen) => {
+                held = held_place(kind, asked, held, at, seen);
+                at += size;
+                kind += 1;
+            }
+            Stretch::Broken(p) => {
+                return Stretch::Broken(at + p);
+            }
+            Stretch::Short => {
+                return Stretch::Short;
+            }
+        }
+    }
+    Stretch::Ends(at, held)
+}
+
+// What looking up finds: the byte at which the book is broken, nothing under the key, or the place of the entry, in
+// numbers from the book's start.
+pub enum Place {
+    Broken(usize),
+    Nothing,
+    At(usize),
+}
+
+// The entry of a sound book in the section that is asked for, by one pass over the book.
+fn find(book: &[u8], asked: usize, severity: u64, letter: u64, column: u64) -> Place
+    requires { ⌜ asked < 4 ⌝ }
+    ensures { λ r. ⌜ Finds asked severity letter column (now (book .entry)) r ⌝ }
+{
+    let len = book.len();
+    if 32768 < len {
+        return Place::Broken(32768);
+    }
+    match check_sections(book, asked, severity, letter, column) {
+        Stretch::Ends(p, held) => {
+            let end = 2 * p;
+            if end < len {
+                return Place::Broken(end);
+            }
+            if held == 0 {
+                return Place::Nothing;
+            }
+            Place::At(held)
+        }
+        Stretch::Broken(p) => Place::Broken(2 * p),
+        Stretch::Short => Place::Broken(len),
+    }
+}
+
+// What checking a book answers.
+pub enum BookAnswer {
+    Refused(u8, usize),
+    Sound,
+}
+
+// Sound, or 12 with its byte. No letter is 65,536, so nothing is looked for.
+pub fn check_book(book: &[u8]) -> BookAnswer
+    ensures { λ r. ⌜ bookPaper r ≡ onSound (checkBook (now (book .entry))) (given tt) ⌝ }
+{
+    match find(book, 0, 0, 65536, 0) {
+        Place::Broken(byte) => BookAnswer::Refused(12, byte),
+        Place::Nothing => BookAnswer::Sound,
+        Place::At(_) => BookAnswer::Sound,
+    }
+}
+
+// The number at a place has 16 bits.
+fn number16(e: &[u8], i: usize) -> u16
+    ensures { λ r. ⌜ r ≡ getD (numbersOf (now (e .entry))) i 0 ⌝ }
+{
+    numbers::number(e, i) as u16
+}
+
+// A reduced single: its size and Ac.
+pub enum ReducedAnswer {
+    Refused(u8, usize),
+    Given { n: u16, ac: u16 },
+}
+
+// The reduced single under a Table 1 letter and a column.
+pub fn find_reduced(book: &[u8], letter: u32, column: u32) -> ReducedAnswer
+    ensures { λ r. ⌜ reducedPaper r ≡ heldIn reducedSection reduced letter column (now (book .entry)) reducedOf ⌝ }
+{
+    match find(book, 0, 2, letter as u64, column as u64) {
+        Place::Broken(byte) => ReducedAnswer::Refused(12, byte),
+        Place::Nothing => ReducedAnswer::Refused(6, 0),
+        Place::At(p) => {
+            let from = 2 * p;
+            let e = &book[from..];
+            let n = number16(e, 2);
+            let ac = number16(e, 3);
+            ReducedAnswer::Given { n, ac }
+        }
+    }
+}
+
+// A sequential plan: hA, hR, g, nt and At.
+pub enum SequentialAnswer {
+    Refused(u8, usize),
+    Given {
+        ha: u16,
+        hr: u16,
+        g: u16,
+        nt: u16,
+        at_nt: u16,
+    },
+}
+
+// The sequential plan under a severity, a Table 1 letter and a column.
+pub fn find_sequential(book: &[u8], severity: u32, letter: u32, column: u32) -> SequentialAnswer
+    ensures { λ r. ⌜ sequentialPaper r
+        ≡ heldIn sequentialSection severity letter column (now (book .entry)) sequentialOf ⌝ }
+{
+    match find(book, 2, severity as u64, letter as u64, column as u64) {
+        Place::Broken(byte) => SequentialAnswer::Refused(12, byte),
+        Place::Nothing => SequentialAnswer::Refused(6, 0),
+        Place::At(p) => {
+            let from = 2 * p;
+            let e = &book[from..];
+            let ha = number16(e, 3);
+            let hr = number16(e, 4);
+            let g = number16(e, 5);
+            let nt = number16(e, 6);
+            let at_nt = number16(e, 7);
+            SequentialAnswer::Given {
+                ha,
+                hr,
+                g,
+                nt,
+                at_nt,
+            }
+        }
+    }
+}
+
+// A variables plan: n and K.
+pub enum VariablesAnswer {
+    Refused(u8, usize),
+    Given { n: u16, k: u16 },
+}
+
+// The variables plan under a severity, a Table 1 letter and a column.
+pub fn find_variables(book: &[u8], severity: u32, letter: u32, column: u32) -> VariablesAnswer
+    ensures { λ r. ⌜ variablesPaper r
+        ≡ heldIn variablesSection severity letter column (now (book .entry)) variablesOf ⌝ }
+{
+    match find(book, 3, severity as u64, letter as u64, column as u64) {
+        Place::Broken(byte) => VariablesAnswer::Refused(12, byte),
+        Place::Nothing => VariablesAnswer::Refused(6, 0),
+        Place::At(p) => {
+            let from = 2 * p;
+            let e = &book[from..];
+            let n = number16(e, 3);
+            let k = number16(e, 4);
+            VariablesAnswer::Given { n, k }
+        }
+    }
+}
+
+// A staged plan: its number of stages, and beside it the sizes, Ac and Re of each, 0 past its stages and beside a
+// refusal.
+pub enum StagedAnswer {
+    Refused(u8, usize),
+    Given(u16),
+}
+
+pub struct StagedFound {
+    pub answer: StagedAnswer,
+    pub sizes: [u16; 7],
+    pub acs: [u16; 7],
+    pub res: [u16; 7],
+}
+
+// Seven places, the first m of which hold every step-th number of an entry.
+fn spread(e: &[u8], from: usize, step: usize, m: usize) -> [u16; 7]
+    requires { ⌜ (m ≤ 7) × ((step ≤ 2) × (from < 100)) ⌝ }
+    ensures { λ r. ⌜ r ≡ seven (every from step m (numbersOf (now (e .entry)))) ⌝ }
+{
+    let mut out = [0u16; 7];
+    let mut p = from;
+    let mut i = 0;
+    while i < m {
+        out[i] = number16(e, p);
+        p += step;
+        i += 1;
+    }
+    out
+}
+
+fn staged_refused(number: u8, place: usize) -> StagedFound
+    ensures { λ r. ⌜ stagedPaper r ≡ beside (refused number place) ⌝ }
+{
+    StagedFound {
+        answer: StagedAnswer::Refused(number, place),
+        sizes: [0u16; 7],
+        acs: [0u16; 7],
+        res: [0u16; 7],
+    }
+}
+
+fn staged_given(e: &[u8]) -> StagedFound
+    requires { ⌜ getD (numbersOf (now e)) 3 0 ≤ 7 ⌝ }
+    ensures { λ r. ⌜ stagedPaper r ≡ beside (given (stagedOf (entryOf staged (numbersOf (now (e .entry)))))) ⌝ }
+{
+    let stages = number16(e, 3);
+    let m = stages as usize;
+    let sizes = spread(e, 4, 1, m);
+    let acs = spread(e, 4 + m, 2, m);
+    let res = spread(e, 5 + m, 2, m);
+    StagedFound {
+        answer: StagedAnswer::Given(stages),
+        sizes,
+        acs,
+        res,
+    }
+}
+
+// The staged plan under a severity, a Table 1 letter and a column.
+pub fn find_staged(book: &[u8], severity: u32, letter: u32, column: u32) -> StagedFound
+    ensures { λ r. ⌜ stagedPaper r
+        ≡ beside (heldIn stagedSection severity letter column (now (book .entry)) stagedOf) ⌝ }
+{
+    match find(book, 1, severity as u64, letter as u64, column as u64) {
+        Place::Broken(byte) => staged_refused(12, byte),
+        Place::Nothing => staged_refused(6, 0),
+        Place::At(p) => {
+            let from = 2 * p;
+            staged_given(&book[from..])
+        }
+    }
+}
