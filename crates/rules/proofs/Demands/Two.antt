@@ -446,7 +446,8 @@ module _ (bytes : List ℕ) where
   pub screen-refused : Reports 7 ScreenRows (screen bytes)
   unfolding screen
   screen-refused =
-      check 7 (unfit bytes) (λ t n f. false≢true (sym (fits bytes n (f .some) (f .few) (f .whole)) ∙ t)) (unfit-when bytes (unfit bytes) refl)
+      check 7 (unfit bytes) (λ t n f. false≢true (sym (fits bytes n (f .some) (f .few) (f .whole)) ∙ t))
+      (unfit-when bytes (unfit bytes) refl)
       (omega arith)
       (check 9 (not (allInGauge (readingsOf bytes)))
       (λ t. out-means (readingsOf bytes) (not-true (allInGauge (readingsOf bytes)) t))
