@@ -446,11 +446,11 @@ fn counts(severity: u8, accepted: bool, points: Lot) -> Lot
     Lot::NotAccepted
 }
 
-fn single_points(ac: u32, tighter: u32, total: u32) -> Lot
+fn single_points(ac: u32, tighter: u32, total: u64) -> Lot
     ensures { λ r. ⌜ paperLot r ≡ singlePoints ac tighter total ⌝ }
 {
     if 2 <= ac {
-        if total <= tighter {
+        if total <= tighter as u64 {
             return Lot::AddThree;
         }
         return Lot::ScoreZero;
@@ -468,7 +468,7 @@ fn staged_points(stage: u32, stages: u32) -> Lot
 }
 
 // How a lot on a single plan counts: `tighter` is the Ac one column tighter at the letter that gives the size.
-pub fn single_counts(severity: u8, accepted: bool, ac: u32, tighter: u32, total: u32) -> Lot
+pub fn single_counts(severity: u8, accepted: bool, ac: u32, tighter: u32, total: u64) -> Lot
     ensures { λ r. ⌜ paperLot r ≡ counted severity accepted (singlePoints ac tighter total) ⌝ }
 {
     counts(severity, accepted, single_points(ac, tighter, total))
