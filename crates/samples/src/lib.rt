@@ -175,7 +175,8 @@ fn is_illegal(column: u32, item: u64) -> bool
 // Takes k items from a place on, and adds them to a total.
 fn take_items(column: u32, k: usize, total: u64, sample: &[u8], from: usize) -> Taken
     requires { ⌜ (k < 65536) × (from < 65536) × (total < 4294967296) ⌝ }
-    ensures { λ r. ⌜ (takenPaper r (now (sample .entry)) ≡ takeItems column k total (drop from (numbersOf (now (sample .entry)))))
+    ensures { λ r. ⌜ (takenPaper r (now (sample .entry))
+        ≡ takeItems column k total (drop from (numbersOf (now (sample .entry)))))
         × (takenTotal r ≤ total + 65535 * k) ⌝ }
 {
     let count = numbers::count(sample);
