@@ -29,7 +29,7 @@ const FIXED: [u8; 4] = [4, 4, 8, 5];
 const EACH: [u8; 4] = [0, 3, 0, 0];
 
 // The ranges of the first eight numbers of an entry; past them, whatever fits.
-const LOW: [[u8; 8]; 4] = [
+const LOW: [[u16; 8]; 4] = [
     [0, 0, 1, 0, 0, 0, 0, 0],
     [0, 0, 0, 2, 0, 0, 0, 0],
     [0, 0, 0, 1, 1, 1, 1, 0],
@@ -59,6 +59,12 @@ fn entry_size(kind: usize, after: u64) -> usize
     fixed + each * (after as usize)
 }
 
+fn wide(x: u16) -> u64
+    ensures { λ r. ⌜ r ≡ x ⌝ }
+{
+    x as u64
+}
+
 // Is x within the range of the number at place i of an entry?
 fn in_range(kind: usize, i: usize, x: u64) -> bool
     requires { ⌜ (kind < 4) × (x < 65536) ⌝ }
@@ -67,8 +73,8 @@ fn in_range(kind: usize, i: usize, x: u64) -> bool
     if 8 <= i {
         return true;
     }
-    let low = LOW[kind][i] as u64;
-    let high = HIGH[kind][i] as u64;
+    let low = wide(LOW[kind][i]);
+    let high = wide(HIGH[kind][i]);
     if x < low {
         return false;
     }
@@ -240,10 +246,10 @@ fn entry_numbers(kind: usize, e: &[u8]) -> Walk
     let key = key_len(kind);
     let after = numbers::number(e, key);
     let size = entry_size(kind, after);
-    let have = numbers::count(e);
+    let whole = numbers::count(e);
     let mut i = 0;
     while i < size {
-        if have <= i {
+        if whole <= i {
             return Walk::Short;
         }
         if right_at(kind, e, i) {

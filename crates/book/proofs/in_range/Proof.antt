@@ -1,15 +1,14 @@
 -- `book::in_range` meets its contract.
 -- Assumes nothing.
-use mathlib.Core.Path.{_≡_, ap}
+use mathlib.Core.Path.{_≡_, ap, _∙_}
 use Prim.Native.Nat.{ℕ, _<_, _≤_}
-use mathlib.Core.Bool.{Bool, _&&_}
 use mathlib.Core.List.{List, [], _∷_}
 use native.Mathlib.Omega.{arith}
 use borrow.Author.Tests.{le-leb, lt-leb}
 use lib.ListN.{getD}
-use lib.Dec.{T, eqb, leb, eqb→eq, leb→le}
+use lib.Dec.{eqb, leb, eqb→eq}
 use Rattle.rules.specs.Book.{kindAt, anything}
-use Rattle.rules.proofs.Bounded.{all-at₂, both-left, both-right}
+use Rattle.rules.proofs.Bounded.{all-at₂}
 use Rattle.rules.proofs.SectionKinds.{range-past}
 use borrow.Author.Needs.{needs}
 use Rattle.book.proofs.in_range.Statement.{statement}
@@ -31,31 +30,18 @@ highs =
     ∷ (2 ∷ 15 ∷ 15 ∷ 50 ∷ 4000 ∷ 65535 ∷ 65535 ∷ 65535 ∷ [])
     ∷ []
 
--- what stands in a table at a kind and a place, held to the range there and to 16 bits
-abbrev isHeld : ℕ → ℕ → Bool
-isHeld x bound = eqb x bound && leb x 65535
-
-held : (x bound : ℕ) → T (isHeld x bound) → (x ≡ bound) × (x ≤ 65535)
-held x bound t = (
-  eqb→eq x bound (both-left (eqb x bound) (leb x 65535) t),
-  leb→le x 65535
-      (both-right (eqb x bound) (leb x 65535) t),
-)
-
--- both tables hold the ranges of every kind, by one test of all their places
-low-at : (n i : ℕ) → n < 4 → i < 8
-    → (getD (getD lows n []) i 0 ≡ getD (kindAt n .ranges) i anything .low) × (getD (getD lows n []) i 0 ≤ 65535)
+-- both tables hold the ranges of every kind, each by one test of all its places
+low-at : (n i : ℕ) → n < 4 → i < 8 → getD (getD lows n []) i 0 ≡ getD (kindAt n .ranges) i anything .low
 unfolding lows
 low-at n i h l =
-    held (getD (getD lows n []) i 0) (getD (kindAt n .ranges) i anything .low)
-    (all-at₂ 4 8 (λ n i. isHeld (getD (getD lows n []) i 0) (getD (kindAt n .ranges) i anything .low)) tt n i h l)
+    eqb→eq (getD (getD lows n []) i 0) (getD (kindAt n .ranges) i anything .low)
+    (all-at₂ 4 8 (λ n i. eqb (getD (getD lows n []) i 0) (getD (kindAt n .ranges) i anything .low)) tt n i h l)
 
-high-at : (n i : ℕ) → n < 4 → i < 8
-    → (getD (getD highs n []) i 0 ≡ getD (kindAt n .ranges) i anything .high) × (getD (getD highs n []) i 0 ≤ 65535)
+high-at : (n i : ℕ) → n < 4 → i < 8 → getD (getD highs n []) i 0 ≡ getD (kindAt n .ranges) i anything .high
 unfolding highs
 high-at n i h l =
-    held (getD (getD highs n []) i 0) (getD (kindAt n .ranges) i anything .high)
-    (all-at₂ 4 8 (λ n i. isHeld (getD (getD highs n []) i 0) (getD (kindAt n .ranges) i anything .high)) tt n i h l)
+    eqb→eq (getD (getD highs n []) i 0) (getD (kindAt n .ranges) i anything .high)
+    (all-at₂ 4 8 (λ n i. eqb (getD (getD highs n []) i 0) (getD (kindAt n .ranges) i anything .high)) tt n i h l)
 
 returns : tie.Need-returns
 returns c =
@@ -66,69 +52,69 @@ returns c =
       le-leb (a .args .x) 65535 (omega arith),
     )
 
-mul-low : tie.Need-mul-low
-mul-low c = search needs
+mul-wide : tie.Need-mul-wide
+mul-wide c = search needs
 
-index-1-low : tie.Need-index-1-low
-index-1-low c = search needs
+mul-wide-2 : tie.Need-mul-wide-2
+mul-wide-2 c = search needs
 
-index-2-low : tie.Need-index-2-low
-index-2-low c = search needs
+index-1-wide : tie.Need-index-1-wide
+index-1-wide c = search needs
 
-cast-low : tie.Need-cast-low
-unfolding lows
-cast-low c =
-    omega (arith, low-at (c .before .before .args .kind) (c .before .before .args .i) (omega arith) (omega arith))
+index-2-wide : tie.Need-index-2-wide
+index-2-wide c = search needs
 
-mul-high : tie.Need-mul-high
-mul-high c = search needs
+wide-requires : tie.Need-wide-requires
+wide-requires c κs = search needs
 
-mul-high-2 : tie.Need-mul-high-2
-mul-high-2 c = search needs
+mul-wide-3 : tie.Need-mul-wide-3
+mul-wide-3 c = search needs
 
-index-1-high : tie.Need-index-1-high
-index-1-high c = search needs
+mul-wide-4 : tie.Need-mul-wide-4
+mul-wide-4 c = search needs
 
-index-2-high : tie.Need-index-2-high
-index-2-high c = search needs
+index-1-wide-2 : tie.Need-index-1-wide-2
+index-1-wide-2 c = search needs
 
-cast-high : tie.Need-cast-high
-unfolding highs
-cast-high c =
-    let a = c .before .before .before .args in
-    omega (arith, high-at (a .kind) (a .i) (omega arith) (omega arith))
+index-2-wide-2 : tie.Need-index-2-wide-2
+index-2-wide-2 c = search needs
+
+wide-requires-2 : tie.Need-wide-requires-2
+wide-requires-2 c κs = search needs
 
 returns-2 : tie.Need-returns-2
 unfolding lows
 returns-2 c =
-    let a = c .before .before .before .before .args in
+    let a = c .before .before .before .before .before .before .args in
     let r = getD (kindAt (a .kind) .ranges) (a .i) anything in
-    let l = low-at (a .kind) (a .i) (omega arith) (omega arith) in
-    let t : a .x < r .low = omega (arith, l .0) in
+    let low = c .before .before .before .wide .ensures ∙ low-at (a .kind) (a .i) (omega arith) (omega arith) in
+    let t : a .x < r .low = omega (arith, low) in
     rw (lt-leb (r .low) (a .x) t)
 
 returns-3 : tie.Need-returns-3
 unfolding lows highs
 returns-3 c =
-    let a = c .before .before .before .before .args in
+    let a = c .before .before .before .before .before .before .args in
     let r = getD (kindAt (a .kind) .ranges) (a .i) anything in
-    let l = low-at (a .kind) (a .i) (omega arith) (omega arith) in
-    let t : r .low ≤ a .x = omega (arith, l .0) in
-    rw (le-leb (r .low) (a .x) t) (ap (leb (a .x)) (high-at (a .kind) (a .i) (omega arith) (omega arith) .0))
+    let low = c .before .before .before .wide .ensures ∙ low-at (a .kind) (a .i) (omega arith) (omega arith) in
+    let high = c .before .wide2 .ensures ∙ high-at (a .kind) (a .i) (omega arith) (omega arith) in
+    let t : r .low ≤ a .x = omega (arith, low) in
+    rw (le-leb (r .low) (a .x) t) (ap (leb (a .x)) high)
 
 pub in-range-spec : {M : Type 1} → statement M
 in-range-spec =
     tie.close
     (tie.spec
     returns
-    mul-low
-    index-1-low
-    index-2-low
-    cast-low
-    mul-high
-    mul-high-2
-    index-1-high
-    index-2-high
-    cast-high
+    mul-wide
+    mul-wide-2
+    index-1-wide
+    index-2-wide
+    wide-requires
+    mul-wide-3
+    mul-wide-4
+    index-1-wide-2
+    index-2-wide-2
+    wide-requires-2
     returns-2
     returns-3)
