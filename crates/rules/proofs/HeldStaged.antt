@@ -7,8 +7,8 @@ use mathlib.Core.Bool.{Bool, true, false, cond, _&&_, _||_, not, true≢false}
 use mathlib.Core.List.{List}
 use native.Mathlib.Omega.{arith}
 use borrow.Author.Tests.{ltb-true, leb-true, le-leb, lt-leb, lt-ltb, le-ltb, eqb-true, eqb-false, eq-eqb, ne-eqb}
-use lib.ListN.{length, getD, take, replicate, List·getD-append, List·getD-eq-default, length-append, length-take}
-use lib.Seq.{getD-take, getD-append-add, length-take-le}
+use lib.ListN.{length, getD, take, replicate, List·getD-append, List·getD-eq-default, length-append}
+use lib.Seq.{getD-append-add}
 use lib.Dec.{ltb, leb, eqb}
 use Rattle.rules.specs.Book.{within, anything, _to_, right, couldHold, staged, acKeeps, reKeeps}
 use Rattle.rules.specs.Book.{stagedNumber, stagedRule, every, seven, stagedOf}
@@ -22,12 +22,15 @@ use Rattle.rules.proofs.LookUp.{Held, held, could-hold}
 use Rattle.rules.proofs.HeldPlans.{in-range, keeps-rule}
 
 -- The numbers of a staged entry of m stages by stage: "neither number falls, Ac under Re, last Re = Ac + 1 .."
-record ByStage (m : ℕ) (size ac re : ℕ → ℕ) : Type 0 where
-  few : (2 ≤ m) × (m ≤ 7)
-  sized : (j : ℕ) → j < m → within (1 to 2000) (size j) ≡ true
-  numbered : (j : ℕ) → j < m → ac j ≤ 65535
-  ac-kept : (j : ℕ) → j < m → acKeeps (eqb j 0) (eqb (j + 1) m) (ac (j - 1)) (ac j) ≡ true
-  re-kept : (j : ℕ) → j < m → reKeeps (eqb j 0) (eqb (j + 1) m) (re (j - 1)) (ac j) (re j) ≡ true
+pub record ByStage (m : ℕ) (size ac re : ℕ → ℕ) : Type 0 where
+  pub few : (2 ≤ m) × (m ≤ 7)
+  pub sized : (j : ℕ) → j < m → within (1 to 2000) (size j) ≡ true
+  pub ac-kept : (j : ℕ) → j < m → acKeeps (eqb j 0) (eqb (j + 1) m) (ac (j - 1)) (ac j) ≡ true
+  pub re-kept : (j : ℕ) → j < m → reKeeps (eqb j 0) (eqb (j + 1) m) (re (j - 1)) (ac j) (re j) ≡ true
+
+-- the numbers of a plan
+abbrev pub PlanByStage : StagedPlan → Type 0
+PlanByStage p = ByStage (p .stages) (λ j. getD (p .sizes) j 0) (λ j. getD (p .acs) j 0) (λ j. getD (p .res) j 0)
 
 -- the rule of a number, by what stands at its place
 module _ (m j two one x : ℕ) where
@@ -88,6 +91,13 @@ module _ (first last : Bool) (before ac re : ℕ) (h : reKeeps first last before
       go true t = omega (arith, eqb-true re (ac + 1) t)
       go false t = ltb-true ac re t
 
+  ac-fits : ac ≤ 65535
+  ac-fits = go (eqb ac mark) refl
+    where
+      go : (t : Bool) → eqb ac mark ≡ t → ac ≤ 65535
+      go true t = omega (arith, eqb-true ac mark t)
+      go false t = omega (arith, re-bounded, re-over (eqb-false ac mark t))
+
 module _ (first last : Bool) (before ac : ℕ) (h : acKeeps first last before ac ≡ true) where
   ac-last : last ≡ true → ac ≡ mark → ⊥
   unfolding acKeeps
@@ -122,17 +132,11 @@ module _ (e : List ℕ) (h : Held staged e) where
       let inside : i < length e = omega (arith, h .whole) in
       sym (staged-at e i (getD e i 0) inside l) ∙ keeps-rule staged e h i u
 
-  wide : (i : ℕ) → 4 ≤ i → i < 4 + 3 * m → getD e i 0 ≤ 65535
-  wide i l u =
-      let r = List·getD-eq-default (staged .ranges) anything {n = i} l in
-      rw r at (in-range staged e h i u .1)
-
   entry-by-stage : ByStage m (λ j. getD e (4 + j) 0) (λ j. getD e (4 + m + 2 * j) 0) (λ j. getD e (5 + m + 2 * j) 0)
   entry-by-stage =
       record {
         few = in-range staged e h 3 (omega arith);
         sized = λ j l. sym (size-number m j _ _ (getD e (4 + j) 0) l) ∙ kept (4 + j) (omega arith) (omega arith);
-        numbered = λ j l. wide (4 + m + 2 * j) (omega arith) (omega arith);
         ac-kept = acs;
         re-kept = res;
       }
@@ -171,7 +175,6 @@ by-stage-as b p q r =
     record {
       few = b .few;
       sized = λ j l. rw (p j l) (b .sized j l);
-      numbered = λ j l. rw (q j l) (b .numbered j l);
       ac-kept = λ j l. rw (q (j - 1) (omega arith), q j l) (b .ac-kept j l);
       re-kept = λ j l. rw (r (j - 1) (omega arith), q j l, r j l) (b .re-kept j l);
     }
@@ -218,26 +221,31 @@ pairs-re (suc n) i acs res (suc j) h =
     let z : i + suc j ≡ suc i + j = omega arith in
     rw (two, z) (pairs-re n (suc i) acs res j (omega arith))
 
--- what stands where in the entry of a plan that has its sizes
-module _ (p : StagedPlan) (sized : p .stages ≤ length (p .sizes)) where
+-- what stands where in the entry of a plan
+module _ (p : StagedPlan) where
   abbrev e : List ℕ
   e = stagedEntry p
 
-  first : length (take (p .stages) (p .sizes)) ≡ p .stages
-  first = length-take-le (p .stages) (p .sizes) sized
+  abbrev sizes : List ℕ
+  sizes = every 0 1 (p .stages) (p .sizes)
+
+  abbrev pairs : List ℕ
+  pairs = pairsFrom (p .stages) 0 (p .acs) (p .res)
+
+  sizes-length : length sizes ≡ p .stages
+  sizes-length = every-length 0 1 (p .stages) (p .sizes)
 
   size-at : (j : ℕ) → j < p .stages → getD e (4 + j) 0 ≡ getD (p .sizes) j 0
   size-at j h =
       let four : 4 + j ≡ suc (suc (suc (suc j))) = omega arith in
+      let z : 0 + 1 * j ≡ j = omega arith in
       rw four
-      (List·getD-append (take (p .stages) (p .sizes)) (pairsFrom (p .stages) 0 (p .acs) (p .res)) 0 j (rw first h)
-      ∙ getD-take (p .stages) (p .sizes) j 0 h)
+      (List·getD-append sizes pairs 0 j (rw sizes-length h) ∙ every-at 0 1 (p .stages) (p .sizes) j h ∙ rw z)
 
-  pair-at : (t : ℕ) → getD e (4 + p .stages + t) 0 ≡ getD (pairsFrom (p .stages) 0 (p .acs) (p .res)) t 0
+  pair-at : (t : ℕ) → getD e (4 + p .stages + t) 0 ≡ getD pairs t 0
   pair-at t =
-      let four : 4 + p .stages + t ≡ suc (suc (suc (suc (length (take (p .stages) (p .sizes)) + t)))) =
-      omega (arith, first) in
-      rw four (getD-append-add (take (p .stages) (p .sizes)) (pairsFrom (p .stages) 0 (p .acs) (p .res)) t 0)
+      let four : 4 + p .stages + t ≡ suc (suc (suc (suc (length sizes + t)))) = omega (arith, sizes-length) in
+      rw four (getD-append-add sizes pairs t 0)
 
   ac-at : (j : ℕ) → j < p .stages → getD e (4 + p .stages + 2 * j) 0 ≡ getD (p .acs) j 0
   ac-at j h =
@@ -252,16 +260,10 @@ module _ (p : StagedPlan) (sized : p .stages ≤ length (p .sizes)) where
 
   entry-length : length e ≡ 4 + 3 * p .stages
   entry-length =
-      omega (
-        arith,
-        length-append (take (p .stages) (p .sizes)) (pairsFrom (p .stages) 0 (p .acs) (p .res)),
-        first,
-        pairs-length (p .stages) 0 (p .acs) (p .res),
-      )
+      omega (arith, length-append sizes pairs, sizes-length, pairs-length (p .stages) 0 (p .acs) (p .res))
 
 -- a plan whose numbers keep the rules could be held
-module _ (p : StagedPlan) (sized : p .stages ≤ length (p .sizes))
-    (b : ByStage (p .stages) (λ j. getD (p .sizes) j 0) (λ j. getD (p .acs) j 0) (λ j. getD (p .res) j 0)) where
+module _ (p : StagedPlan) (b : PlanByStage p) where
   abbrev place : ℕ → ℕ
   place i = getD (stagedEntry p) i 0
 
@@ -280,8 +282,8 @@ module _ (p : StagedPlan) (sized : p .stages ≤ length (p .sizes))
 
   at-size : (j : ℕ) → j < p .stages → right staged (stagedEntry p) (4 + j) ≡ true
   at-size j h =
-      let s : within (1 to 2000) (place (4 + j)) ≡ true = rw (size-at p sized j h) (b .sized j h) in
-      right-at (4 + j) (omega arith) (omega (arith, entry-length p sized))
+      let s : within (1 to 2000) (place (4 + j)) ≡ true = rw (size-at p j h) (b .sized j h) in
+      right-at (4 + j) (omega arith) (omega (arith, entry-length p))
       (omega (arith, leb-true (place (4 + j)) 2000 (and-right (leb 1 (place (4 + j))) (leb (place (4 + j)) 2000) s)))
       (size-number (p .stages) j _ _ (place (4 + j)) h ∙ s)
 
@@ -291,7 +293,7 @@ module _ (p : StagedPlan) (sized : p .stages ≤ length (p .sizes))
   ac-keeps (suc j) h =
       let before : 4 + p .stages + 2 * suc j - 2 ≡ 4 + p .stages + 2 * j = omega arith in
       let same : suc j - 1 ≡ j = omega arith in
-      rw (before, ac-at p sized j (omega arith)) (rw same at (b .ac-kept (suc j) h))
+      rw (before, ac-at p j (omega arith)) (rw same at (b .ac-kept (suc j) h))
 
   re-keeps : (j : ℕ) → j < p .stages
       → reKeeps (eqb j 0) (eqb (j + 1) (p .stages)) (place (5 + p .stages + 2 * j - 2)) (getD (p .acs) j 0)
@@ -301,22 +303,22 @@ module _ (p : StagedPlan) (sized : p .stages ≤ length (p .sizes))
   re-keeps (suc j) h =
       let before : 5 + p .stages + 2 * suc j - 2 ≡ 5 + p .stages + 2 * j = omega arith in
       let same : suc j - 1 ≡ j = omega arith in
-      rw (before, re-at p sized j (omega arith)) (rw same at (b .re-kept (suc j) h))
+      rw (before, re-at p j (omega arith)) (rw same at (b .re-kept (suc j) h))
 
   at-ac : (j : ℕ) → j < p .stages → right staged (stagedEntry p) (4 + p .stages + 2 * j) ≡ true
   at-ac j h =
-      right-at (4 + p .stages + 2 * j) (omega arith) (omega (arith, entry-length p sized))
-      (rw (ac-at p sized j h) (b .numbered j h))
-      (ac-number (p .stages) j _ _ (place (4 + p .stages + 2 * j)) ∙ rw (ac-at p sized j h) (ac-keeps j h))
+      right-at (4 + p .stages + 2 * j) (omega arith) (omega (arith, entry-length p))
+      (rw (ac-at p j h) (ac-fits _ _ _ (getD (p .acs) j 0) _ (b .re-kept j h)))
+      (ac-number (p .stages) j _ _ (place (4 + p .stages + 2 * j)) ∙ rw (ac-at p j h) (ac-keeps j h))
 
   at-re : (j : ℕ) → j < p .stages → right staged (stagedEntry p) (5 + p .stages + 2 * j) ≡ true
   at-re j h =
       let one : 5 + p .stages + 2 * j - 1 ≡ 4 + p .stages + 2 * j = omega arith in
-      let r : place (5 + p .stages + 2 * j) ≤ 65534 = rw (re-at p sized j h)
+      let r : place (5 + p .stages + 2 * j) ≤ 65534 = rw (re-at p j h)
       (re-bounded _ _ _ _ (getD (p .res) j 0) (b .re-kept j h)) in
-      right-at (5 + p .stages + 2 * j) (omega arith) (omega (arith, entry-length p sized)) (omega arith)
+      right-at (5 + p .stages + 2 * j) (omega arith) (omega (arith, entry-length p)) (omega arith)
       (re-number (p .stages) j _ _ (place (5 + p .stages + 2 * j))
-      ∙ rw (one, ac-at p sized j h, re-at p sized j h) (re-keeps j h))
+      ∙ rw (one, ac-at p j h, re-at p j h) (re-keeps j h))
 
   at-pair : (i : ℕ) → p .stages ≤ i → i < 3 * p .stages → right staged (stagedEntry p) (4 + i) ≡ true
   at-pair i l h =
@@ -334,11 +336,11 @@ module _ (p : StagedPlan) (sized : p .stages ≤ length (p .sizes))
       rw four (by-le (p .stages) i (λ l. at-pair i l h) (λ l. at-size i l))
 
   free : (i : ℕ) → i < 4 → (x : ℕ) → stagedRule (take i (stagedEntry p)) x ≡ true
-  free i l x = staged-free (stagedEntry p) i x (omega (arith, entry-length p sized)) l
+  free i l x = staged-free (stagedEntry p) i x (omega (arith, entry-length p)) l
 
   plan-held : Held staged (stagedEntry p)
   unfolding right
-  plan-held = record { whole = omega (arith, entry-length p sized); each = each }
+  plan-held = record { whole = omega (arith, entry-length p); each = each }
     where
       each : (i : ℕ) → i < 4 + 3 * p .stages → right staged (stagedEntry p) i ≡ true
       each zero h = free 0 (omega arith) 0
@@ -347,6 +349,9 @@ module _ (p : StagedPlan) (sized : p .stages ≤ length (p .sizes))
       each (suc (suc (suc zero))) h =
           rw (le-leb 2 (p .stages) (b .few .0), le-leb (p .stages) 7 (b .few .1)) (free 3 (omega arith) (p .stages))
       each (suc (suc (suc (suc i)))) h = past-stages i (omega arith)
+
+  pub could-by-stage : couldHold staged (stagedEntry p) ≡ true
+  could-by-stage = could-hold staged (stagedEntry p) plan-held
 
 -- What the rules of the section give, for the plan's stages.
 pub record StagedRight (p : StagedPlan) : Type 0 where
@@ -377,8 +382,7 @@ last-decides s a r total h =
     rw (ne-eqb (s .ac) mark a, lt-leb total (s .ac) l, le-leb (s .re) total m) in
     let z : _≡_ {A = ℕ} 0 1 = cc in omega arith)
 
-by-stage-right : (p : StagedPlan)
-    → ByStage (p .stages) (λ j. getD (p .sizes) j 0) (λ j. getD (p .acs) j 0) (λ j. getD (p .res) j 0) → StagedRight p
+by-stage-right : (p : StagedPlan) → PlanByStage p → StagedRight p
 by-stage-right p b =
     record {
       few = b .few;
@@ -428,9 +432,7 @@ by-stage-right p b =
         (b .re-kept (p .stages - 1) inside) last number
 
 -- the plan that an entry holds, stage by stage
-plan-by-stage : (e : List ℕ) → Held staged e
-    → ByStage (getD e 3 0) (λ j. getD (stagedOf e .sizes) j 0) (λ j. getD (stagedOf e .acs) j 0)
-    (λ j. getD (stagedOf e .res) j 0)
+plan-by-stage : (e : List ℕ) → Held staged e → PlanByStage (stagedOf e)
 plan-by-stage e h =
     by-stage-as (entry-by-stage e h)
     (λ j l. seven-at 4 1 (getD e 3 0) e j l ∙ rw (one j))
@@ -445,24 +447,13 @@ pub staged-held : (e : List ℕ) → Held staged e → StagedRight (stagedOf e)
 staged-held e h = by-stage-right (stagedOf e) (plan-by-stage e h)
 
 pub staged-could : (e : List ℕ) → Held staged e → couldHold staged (stagedEntry (stagedOf e)) ≡ true
-staged-could e h =
-    let xs : List ℕ = every 4 1 (getD e 3 0) e in
-    let sized : getD e 3 0 ≤ length (seven xs) =
-    omega (arith, length-append xs (replicate (7 - length xs) 0), every-length 4 1 (getD e 3 0) e) in
-    could-hold staged (stagedEntry (stagedOf e)) (plan-held (stagedOf e) sized (plan-by-stage e h))
+staged-could e h = could-by-stage (stagedOf e) (plan-by-stage e h)
 
--- A plan handed over that passes the test has these properties.
+-- A plan handed over that passes the test keeps the rules, and has these properties.
+pub held-by-stage : (p : StagedPlan) → couldHold staged (stagedEntry p) ≡ true → PlanByStage p
+held-by-stage p h =
+    by-stage-as (entry-by-stage (stagedEntry p) (held staged (stagedEntry p) h)) (λ j l. sym (size-at p j l))
+    (λ j l. sym (ac-at p j l)) (λ j l. sym (re-at p j l))
+
 pub staged-right : (p : StagedPlan) → couldHold staged (stagedEntry p) ≡ true → StagedRight p
-staged-right p h =
-    let k : Held staged (stagedEntry p) = held staged (stagedEntry p) h in
-    let sized : p .stages ≤ length (p .sizes) =
-    omega (
-      arith,
-      k .whole,
-      length-append (take (p .stages) (p .sizes)) (pairsFrom (p .stages) 0 (p .acs) (p .res)),
-      length-take (p .stages) (p .sizes),
-      pairs-length (p .stages) 0 (p .acs) (p .res),
-    ) in
-    by-stage-right p
-    (by-stage-as (entry-by-stage (stagedEntry p) k) (λ j l. sym (size-at p sized j l)) (λ j l. sym (ac-at p sized j l))
-    (λ j l. sym (re-at p sized j l)))
+staged-right p h = by-stage-right p (held-by-stage p h)

@@ -1,27 +1,20 @@
 -- What the test that a sound book could hold a plan says of the plan's own numbers.
 -- Assumes nothing.
-use Prim.Native.Nat.{ℕ, zero, suc, _+_, _-_, _*_, _/_, _%_, _≤_, _<_}
-use mathlib.Core.Path.{_≡_, refl, sym, ap, _∙_}
-use mathlib.Core.Bool.{Bool, true, false, cond, _&&_, _||_, not, and-true, and-assoc}
-use mathlib.Core.List.{List, [], _∷_, _++_}
+use Prim.Native.Nat.{ℕ, _+_, _-_, _*_, _/_, _≤_}
+use mathlib.Core.Path.{_≡_, refl}
+use mathlib.Core.Bool.{Bool, true, false, cond, _&&_, not, and-true, and-assoc}
 use native.Mathlib.Omega.{arith}
 use borrow.Author.Tests.{le-leb, lt-leb, le-ltb, lt-ltb}
 use lib.Dec.{leb, ltb}
 use Rattle.rules.specs.Sequential.{SequentialPlan, onAcceptLine, onRejectLine}
-use Rattle.rules.specs.Single.{Plan}
-use Rattle.rules.specs.Book.{Walk, ends, broken, isEnd, couldHold, numbersFrom, right, within, _to_}
-use Rattle.rules.specs.Book.{reducedSingles, sequential, sequentialRule, atFits}
-use Rattle.rules.specs.Entries.{singleEntry, sequentialEntry}
+use Rattle.rules.specs.Book.{Walk, broken, isEnd, couldHold, numbersFrom, right, within, _to_}
+use Rattle.rules.specs.Book.{sequential, sequentialRule, atFits}
+use Rattle.rules.specs.Entries.{sequentialEntry}
 use Rattle.rules.proofs.Bounded.{by-le}
 
 end-if : (b : Bool) (w : Walk) (i : ℕ) → isEnd (cond b w (broken i)) ≡ (b && isEnd w)
 end-if true w i = refl
 end-if false w i = refl
-
-pub single-test : (p : Plan)
-    → couldHold reducedSingles (singleEntry p) ≡ (within (1 to 3150) (p .n) && within (0 to 65534) (p .ac))
-unfolding couldHold numbersFrom right
-single-test p = simp (and-true, end-if)
 
 -- "At with floor(g·nt − hA) ≤ At < ceiling(g·nt + hR)": at nt, At is not on the reject line, nor one more on the accept
 -- line

@@ -1,6 +1,6 @@
 -- The walks over a sample, as loops that count up take them: where a walk has come to, and a law for each exit.
 -- Assumes nothing.
-use Prim.Native.Nat.{ℕ, zero, suc, _+_, _-_, _*_, _%_, _≤_, _<_}
+use Prim.Native.Nat.{ℕ, suc, _+_, _-_, _*_, _%_, _≤_, _<_}
 use mathlib.Core.Path.{_≡_, refl, _∙_}
 use mathlib.Core.Bool.{Bool, true, false, cond}
 use mathlib.Core.List.{List, [], _∷_}
@@ -8,9 +8,9 @@ use native.Mathlib.Numerals.{add-one}
 use native.Mathlib.Omega.{arith}
 use borrow.Author.Tests.{lt-ltb, le-ltb, eq-eqb, ne-eqb, ltb-true}
 use lib.Dec.{eqb, ltb, leb}
-use lib.ListN.{length, getD, drop, drop-of-length-le}
+use lib.ListN.{length, getD, drop, length-drop, drop-of-length-le}
 use lib.Seq.{drop-cons}
-use Rattle.rules.specs.Refusals.{Answer, refused, given, wrongLength, illegalItem}
+use Rattle.rules.specs.Refusals.{refused, given, wrongLength, illegalItem}
 use Rattle.rules.specs.Numbers.{numbersOf, halfLeft}
 use Rattle.rules.specs.Codes.{illegal}
 use Rattle.rules.specs.Verdict.{Verdict, Decision, accepts, rejects, goesOn, ended, decided}
@@ -20,6 +20,7 @@ use Rattle.rules.specs.Staged.{StagedPlan, stageAt, stagesFrom, stageDec
 use Rattle.rules.specs.Staged.{takeItems, Standing, stagedVerdict, stagedFrom, judgeStages}
 use Rattle.rules.proofs.Numbers.{numbers-next, numbers-end}
 use Rattle.rules.proofs.Bounded.{by-le}
+use Rattle.rules.proofs.Items.{Takes, takes, takes-so}
 use Rattle.rules.proofs.Parts.{says, decided-says}
 
 -- "The sample must end at the very item (sequential) or stage (staged) that decides"
@@ -113,6 +114,17 @@ module _ {column k total f : ℕ} {ws : List ℕ} {i t : ℕ} (w : TakingAt colu
       pub taking-item : illegal column x ≡ false → TakingAt column k total f ws (i + 1) (t + x)
       unfolding takeItems
       taking-item e = record { walk = w .walk ∙ rw (items-next ws i x is there, one-less, e) }
+
+-- items that are taken are there
+pub taken-there : (column k total f t : ℕ) (ws rest : List ℕ) → f ≤ length ws
+    → takeItems column k total (drop f ws) ≡ taken t rest → f + k ≤ length ws
+taken-there column k total f t ws rest l =
+    go (takeItems column k total (drop f ws)) (takes-so column k total (drop f ws))
+  where
+    go : (o : Taken) → Takes column k total (drop f ws) o → o ≡ taken t rest → f + k ≤ length ws
+    go missing v e = let z : _≡_ {A = ℕ} 0 1 = cc in omega arith
+    go over v e = let z : _≡_ {A = ℕ} 0 1 = cc in omega arith
+    go (taken s r) (takes h legal sum is) e = omega (arith, length-drop f ws)
 
 -- after i stages of the plan, with so many items used
 abbrev pub after : StagedPlan → ℕ → ℕ → Standing

@@ -1,13 +1,13 @@
 -- Each public entry: the order of its refusals and its answer. Definitions only.
 use Prim.Native.Nat.{ℕ, zero, suc}
-use mathlib.Core.Bool.{Bool, true, false, cond, _&&_, not}
+use mathlib.Core.Bool.{Bool, cond, _&&_, not}
 use mathlib.Core.List.{List, [], _∷_, _++_}
-use lib.Dec.{leb, ltb, eqb}
+use lib.Dec.{ltb, eqb}
 use lib.IntN.{ℤ}
-use lib.ListN.{getD, take}
+use lib.ListN.{getD}
 use Rattle.rules.specs.Refusals.{Answer, refused, given, Check, _gives_, firstOf, andThen, unknownForm}
 use Rattle.rules.specs.Refusals.{noSuchColumn, whileStopped, noPlan, illegalItem}
-use Rattle.rules.specs.Codes.{normal, reduced, stopped, countsItems, lotChecks, letterOf}
+use Rattle.rules.specs.Codes.{reduced, stopped, countsItems, lotChecks, letterOf}
 use Rattle.rules.specs.Verdict.{Verdict, Judged}
 use Rattle.rules.specs.Single.{Plan, cutTo, tablePlan, tighterAc, singleVerdict, judgeItems}
 use Rattle.rules.specs.Staged.{StagedPlan, stagesOf, totalSize, judgeStages}
@@ -17,7 +17,8 @@ use Rattle.rules.specs.Severity.{Lot, sampled, Event, lot, resubmitted, 
 use Rattle.rules.specs.Severity.{singlePoints, stagedPoints}
 use Rattle.rules.specs.History.{Work, eventIn}
 use Rattle.rules.specs.Book.{Kind, reducedSingles, staged, sequential, variables, couldHold, Found, found}
-use Rattle.rules.specs.Book.{nothing, lookUp, checkBook, onSound, reducedOf, stagedOf, sequentialOf, variablesOf}
+use Rattle.rules.specs.Book.{nothing, lookUp, checkBook, onSound, every, reducedOf, stagedOf, sequentialOf}
+use Rattle.rules.specs.Book.{variablesOf}
 use Rattle.rules.specs.Numbers.{numbersOf}
 
 -- The numbers of a plan as an entry of its kind, under any key.
@@ -30,7 +31,7 @@ pairsFrom (suc k) i acs res = getD acs i 0 ∷ getD res i 0 ∷ pairsFrom k (suc
 
 abbrev pub stagedEntry : StagedPlan → List ℕ
 stagedEntry p =
-    0 ∷ 0 ∷ 0 ∷ p .stages ∷ (take (p .stages) (p .sizes) ++ pairsFrom (p .stages) 0 (p .acs) (p .res))
+    0 ∷ 0 ∷ 0 ∷ p .stages ∷ (every 0 1 (p .stages) (p .sizes) ++ pairsFrom (p .stages) 0 (p .acs) (p .res))
 
 abbrev pub sequentialEntry : SequentialPlan → List ℕ
 sequentialEntry p = 0 ∷ 0 ∷ 0 ∷ p .hA ∷ p .hR ∷ p .g ∷ p .nt ∷ p .atNt ∷ []

@@ -1,16 +1,18 @@
 // Samples judged on a plan that is handed over: 16-bit little-endian items of lent bytes.
 ghost use mathlib.Core.Path.{_≡_};
-ghost use Prim.Native.Nat.{_+_, _*_, _≤_, _<_};
+ghost use Prim.Native.Nat.{_+_, _-_, _*_, _≤_, _<_};
+ghost use mathlib.Core.Bool.{cond};
 ghost use mathlib.Core.List.{[], _∷_};
+ghost use lib.Dec.{eqb, ltb};
 ghost use lib.ListN.{length, drop};
 ghost use Rattle.rules.specs.Numbers.{numbersOf};
 ghost use Rattle.rules.specs.Codes.{illegal};
-ghost use Rattle.rules.specs.Staged.{takeItems};
+ghost use Rattle.rules.specs.Staged.{takeItems, stageAt, stageDecides, judgeStages};
 ghost use Rattle.rules.specs.Sequential.{onAcceptLine, onRejectLine, itemDecides, judgeSequence};
-ghost use Rattle.rules.specs.Book.{within, _to_, couldHold, reducedSingles, sequential};
-ghost use Rattle.rules.specs.Entries.{singleSample, sequentialEntry, sequentialSample};
+ghost use Rattle.rules.specs.Book.{within, _to_, acKeeps, reKeeps, couldHold, reducedSingles, staged, sequential};
+ghost use Rattle.rules.specs.Entries.{stagedEntry, sequentialEntry, singleSample, stagedSample, sequentialSample};
 ghost use Rattle.samples.specs.Paper.{decisionPaper, endedAfter, sequentialPaper, paperOf};
-ghost use Rattle.samples.specs.Paper.{takenPaper, takenTotal};
+ghost use Rattle.samples.specs.Paper.{takenPaper, takenTotal, stagedPaper, stageKeeps};
 ghost use Rattle.plans.specs.Paper.{planPaper};
 use plans::SinglePlan;
 
@@ -156,11 +158,11 @@ pub fn sequential_sample(plan: SequentialPlan, sample: &[u8]) -> SampleAnswer
     SampleAnswer::Refused(6, 0)
 }
 
-// What taking items comes to: one is missing, one is over 1 where items are 0 or 1, or a total and the place after.
+// What taking items comes to: one is missing, one is over 1 where items are 0 or 1, or a total.
 enum Taken {
     Missing,
     Over,
-    Total(u64, usize),
+    Total(u64),
 }
 
 fn is_illegal(column: u32, item: u64) -> bool
@@ -174,8 +176,8 @@ fn is_illegal(column: u32, item: u64) -> bool
 
 // Takes k items from a place on, and adds them to a total.
 fn take_items(column: u32, k: usize, total: u64, sample: &[u8], from: usize) -> Taken
-    requires { ⌜ (k < 65536) × (from < 65536) × (total < 4294967296) ⌝ }
-    ensures { λ r. ⌜ (takenPaper r (now (sample .entry))
+    requires { ⌜ (k < 65536) × (from ≤ 1000000) × (total < 1099511627776) ⌝ }
+    ensures { λ r. ⌜ (takenPaper (drop (from + k) (numbersOf (now (sample .entry)))) r
         ≡ takeItems column k total (drop from (numbersOf (now (sample .entry)))))
         × (takenTotal r ≤ total + 65535 * k) ⌝ }
 {
@@ -194,7 +196,7 @@ fn take_items(column: u32, k: usize, total: u64, sample: &[u8], from: usize) -> 
         t += item;
         i += 1;
     }
-    Taken::Total(t, end)
+    Taken::Total(t)
 }
 
 // Could a sound book hold the plan?
@@ -229,7 +231,7 @@ pub fn single_sample(column: u32, plan: SinglePlan, sample: &[u8]) -> SampleAnsw
     match take_items(column, k, 0, sample, 0) {
         Taken::Missing => SampleAnswer::Refused(7, 0),
         Taken::Over => SampleAnswer::Refused(8, 0),
-        Taken::Total(t, _) => SampleAnswer::Given(Verdict {
+        Taken::Total(t) => SampleAnswer::Given(Verdict {
             accepted: t <= ac as u64,
             used: n as u32,
             total: t,
@@ -237,4 +239,149 @@ pub fn single_sample(column: u32, plan: SinglePlan, sample: &[u8]) -> SampleAnsw
             stages: 1,
         }),
     }
+}
+
+pub struct StagedPlan {
+    pub stages: u8,
+    pub sizes: [u16; 7],
+    pub acs: [u16; 7],
+    pub res: [u16; 7],
+}
+
+// An Ac that is a number does not fall; a mark stands only before numbers, and not at the last stage.
+fn ac_keeps(first: bool, last: bool, before: u16, ac: u16) -> bool
+    ensures { λ r. ⌜ r ≡ acKeeps first last before ac ⌝ }
+{
+    if ac == 65535 {
+        return !last & (first | (before == 65535));
+    }
+    first | ((before == 65535) | (before <= ac))
+}
+
+// Re is over Ac, at the last stage by one.
+fn is_over(last: bool, ac: u16, re: u16) -> bool
+    ensures { λ r. ⌜ r ≡ cond last (eqb re (ac + 1)) (ltb ac re) ⌝ }
+{
+    if last {
+        return re as u64 == ac as u64 + 1;
+    }
+    ac < re
+}
+
+// Re does not fall, and is over an Ac that is a number.
+fn re_keeps(first: bool, last: bool, before: u16, ac: u16, re: u16) -> bool
+    ensures { λ r. ⌜ r ≡ reKeeps first last before ac re ⌝ }
+{
+    (re <= 65534) & ((first | (before <= re)) & ((ac == 65535) | is_over(last, ac, re)))
+}
+
+// i - 1, and 0 at 0
+fn one_less(i: usize) -> usize
+    ensures { λ r. ⌜ r ≡ i - 1 ⌝ }
+{
+    if i == 0 { 0 } else { i - 1 }
+}
+
+// Do the numbers of the stage at a place keep the rules of the section?
+fn stage_keeps(plan: StagedPlan, i: usize) -> bool
+    requires { ⌜ i < 7 ⌝ }
+    ensures { λ r. ⌜ r ≡ stageKeeps (stagedPaper plan) i ⌝ }
+{
+    let first = i == 0;
+    let last = i + 1 == plan.stages as usize;
+    let before = one_less(i);
+    let ac = ac_keeps(first, last, plan.acs[before], plan.acs[i]);
+    let re = re_keeps(first, last, plan.res[before], plan.acs[i], plan.res[i]);
+    in_range(1, 2000, plan.sizes[i]) & ac & re
+}
+
+// Could a sound book hold the plan?
+fn staged_held(plan: StagedPlan) -> bool
+    ensures { λ r. ⌜ r ≡ couldHold staged (stagedEntry (stagedPaper plan)) ⌝ }
+{
+    let stages = plan.stages as usize;
+    if stages < 2 {
+        return false;
+    }
+    if 7 < stages {
+        return false;
+    }
+    let mut i = 0;
+    while i < stages {
+        if stage_keeps(plan, i) {
+            i += 1;
+        } else {
+            return false;
+        }
+    }
+    true
+}
+
+// "At most Ac accepts, at least Re rejects, else go on"; a mark accepts nothing.
+fn stage_decides(plan: StagedPlan, i: usize, total: u64) -> Decision
+    requires { ⌜ i < 7 ⌝ }
+    ensures { λ r. ⌜ decisionPaper r ≡ stageDecides (stageAt (stagedPaper plan) i) total ⌝ }
+{
+    let ac = wide(plan.acs[i]);
+    let re = wide(plan.res[i]);
+    if !(ac == 65535) & (total <= ac) {
+        return Decision::Decides(true);
+    }
+    if re <= total {
+        return Decision::Decides(false);
+    }
+    Decision::GoesOn
+}
+
+fn staged_walk(column: u32, plan: StagedPlan, sample: &[u8]) -> SampleAnswer
+    requires { ⌜ plan .stages ≤ 7 ⌝ }
+    ensures { λ r. ⌜ paperOf r ≡ judgeStages column (stagedPaper plan) (now (sample .entry)) ⌝ }
+{
+    let stages = plan.stages as usize;
+    let mut i = 0;
+    let mut used = 0;
+    let mut total = 0;
+    while i < stages {
+        let size = wide(plan.sizes[i]) as usize;
+        match take_items(column, size, total, sample, used) {
+            Taken::Missing => {
+                return SampleAnswer::Refused(7, 0);
+            }
+            Taken::Over => {
+                return SampleAnswer::Refused(8, 0);
+            }
+            Taken::Total(t) => {
+                total = t;
+            }
+        }
+        used += size;
+        match stage_decides(plan, i, total) {
+            Decision::Decides(accepted) => {
+                let v = Verdict {
+                    accepted: accepted,
+                    used: used as u32,
+                    total: total,
+                    stage: (i + 1) as u8,
+                    stages: plan.stages,
+                };
+                return ended_with(sample, v);
+            }
+            Decision::GoesOn => {}
+        }
+        i += 1;
+    }
+    SampleAnswer::Refused(7, 0)
+}
+
+// 4, 6, then 7 or 8 as the walk meets it, then the verdict.
+pub fn staged_sample(column: u32, plan: StagedPlan, sample: &[u8]) -> SampleAnswer
+    ensures { λ r. ⌜ paperOf r ≡ stagedSample column (stagedPaper plan) (now (sample .entry)) ⌝ }
+{
+    if 25 < column {
+        return SampleAnswer::Refused(4, 0);
+    }
+    if staged_held(plan) {
+        return staged_walk(column, plan, sample);
+    }
+    SampleAnswer::Refused(6, 0)
 }

@@ -1,10 +1,9 @@
 -- `samples::sequential_walk` meets its contract. The invariant: the walk has come to the item at place i.
 -- Assumes nothing.
 use Prim.Native.Nat.{_-_, _≤_}
-use mathlib.Core.Path.{_≡_, sym, ap, _∙_}
+use mathlib.Core.Path.{sym, ap, _∙_}
 use native.Mathlib.Omega.{arith}
 use borrow.Author.Needs.{needs}
-use Rattle.rules.specs.Sequential.{itemDecides}
 use Rattle.rules.proofs.SampleSteps.{SequentialAt, sequential-start, sequential-short, sequential-over}
 use Rattle.rules.proofs.SampleSteps.{sequential-decides, sequential-goes, goes-before}
 use Rattle.samples.specs.Paper.{sequentialPaper, decisionPaper}

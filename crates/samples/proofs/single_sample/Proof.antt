@@ -3,8 +3,10 @@
 use mathlib.Core.Path.{_≡_, ap, sym, _∙_}
 use borrow.Author.Needs.{needs}
 use borrow.Author.Tests.{not-true, not-false}
-use lib.ListN.{length}
 use Rattle.rules.specs.Entries.{singleSample}
+use Prim.Native.Nat.{_+_}
+use lib.ListN.{drop}
+use Rattle.rules.specs.Numbers.{numbersOf}
 use Rattle.rules.proofs.Singles.{judgedAs, sample-column, sample-cannot, sample-length, sample-taken}
 use Rattle.plans.specs.Paper.{planPaper}
 use Rattle.samples.specs.declared.Taken.{Taken}
@@ -56,13 +58,15 @@ cast-t14 c = search needs
 -- a sample of the right length is judged as its items are taken
 judged : (c : tie.After-take-items) (r : Taken) → c .take-items .result ≡ r
     → judgedAs (planPaper (c .before .before .before .before .before .before .args .plan))
-    (takenPaper r (c .before .before .before .before .before .before .args .sample .now))
+    (takenPaper (drop (0 + c .before .before .before .before .before .before .args .plan .n)
+    (numbersOf (c .before .before .before .before .before .before .args .sample .now))) r)
     ≡ singleSample (c .before .before .before .before .before .before .args .column)
     (planPaper (c .before .before .before .before .before .before .args .plan))
     (c .before .before .before .before .before .before .args .sample .now)
 judged c r e =
     let a = c .before .before .before .before .before .before .args in
-    ap (λ (x : Taken). judgedAs (planPaper (a .plan)) (takenPaper x (a .sample .now))) (sym e)
+    let rest = drop (0 + a .plan .n) (numbersOf (a .sample .now)) in
+    ap (λ (x : Taken). judgedAs (planPaper (a .plan)) (takenPaper rest x)) (sym e)
     ∙ ap (judgedAs (planPaper (a .plan))) (c .take-items .ensures .0)
     ∙ sample-taken (a .column) (planPaper (a .plan)) (a .sample .now) (c .before .before .before .before .if1 .left)
     (sym (c .before .before .before .single-held .ensures) ∙ not-false _ (c .before .before .if2 .left))
