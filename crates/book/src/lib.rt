@@ -11,7 +11,7 @@ ghost use Rattle.rules.specs.Codes.{reduced};
 ghost use Rattle.rules.specs.Staged.{mark};
 ghost use Rattle.rules.specs.Book.{kindAt, within, anything, right, keyFalls};
 ghost use Rattle.rules.specs.Book.{acKeeps, reKeeps, stagedNumber, stagedRule, atFits, sequentialRule};
-ghost use Rattle.rules.specs.Book.{checkBook, onSound, staged, every, seven};
+ghost use Rattle.rules.specs.Book.{kinds, checkBook, onSound, staged, every, seven};
 ghost use Rattle.rules.specs.Book.{reducedOf, stagedOf, sequentialOf, variablesOf};
 ghost use Rattle.rules.specs.Layout.{entryOf};
 ghost use Rattle.rules.specs.Entries.{reducedSection, stagedSection, sequentialSection, variablesSection};
@@ -19,24 +19,26 @@ ghost use Rattle.book.specs.Paper.{walkOf, entryRead, risesAfter, keyAt,
 ghost use Rattle.book.specs.Paper.{foundAt, foundUnder, orElse, SectionRead, SectionsRead, heldAt, Finds, heldIn};
 ghost use Rattle.book.specs.Paper.{bookPaper, reducedPaper, sequentialPaper, variablesPaper, stagedPaper, beside};
 
-// The four kinds of section are data, a row for each in the book's order.
+// The kinds of section are data, a row for each in the book's order.
+const KINDS: usize = 4;
+
 // How many numbers a key has.
-const KEY: [u8; 4] = [2, 3, 3, 3];
+const KEY: [u8; KINDS] = [2, 3, 3, 3];
 
 // How many numbers an entry has: so many, and so many more for each one that the number after its key counts.
-const FIXED: [u8; 4] = [4, 4, 8, 5];
+const FIXED: [u8; KINDS] = [4, 4, 8, 5];
 
-const EACH: [u8; 4] = [0, 3, 0, 0];
+const EACH: [u8; KINDS] = [0, 3, 0, 0];
 
 // The ranges of the first eight numbers of an entry; past them, whatever fits.
-const LOW: [[u16; 8]; 4] = [
+const LOW: [[u16; 8]; KINDS] = [
     [0, 0, 1, 0, 0, 0, 0, 0],
     [0, 0, 0, 2, 0, 0, 0, 0],
     [0, 0, 0, 1, 1, 1, 1, 0],
     [0, 0, 0, 2, 1, 0, 0, 0],
 ];
 
-const HIGH: [[u16; 8]; 4] = [
+const HIGH: [[u16; 8]; KINDS] = [
     [15, 25, 3150, 65534, 65535, 65535, 65535, 65535],
     [2, 15, 25, 7, 65535, 65535, 65535, 65535],
     [2, 15, 15, 65535, 65535, 60000, 3150, 65535],
@@ -44,14 +46,14 @@ const HIGH: [[u16; 8]; 4] = [
 ];
 
 fn key_len(kind: usize) -> usize
-    requires { ⌜ kind < 4 ⌝ }
+    requires { ⌜ kind < length kinds ⌝ }
     ensures { λ r. ⌜ (r ≡ kindAt kind .key) × (r ≤ 3) ⌝ }
 {
     KEY[kind] as usize
 }
 
 fn entry_size(kind: usize, after: u64) -> usize
-    requires { ⌜ (kind < 4) × (after < 65536) ⌝ }
+    requires { ⌜ (kind < length kinds) × (after < 65536) ⌝ }
     ensures { λ r. ⌜ (r ≡ kindAt kind .size after) × (r < 200000) ⌝ }
 {
     let fixed = FIXED[kind] as usize;
@@ -67,7 +69,7 @@ fn wide(x: u16) -> u64
 
 // Is x within the range of the number at place i of an entry?
 fn in_range(kind: usize, i: usize, x: u64) -> bool
-    requires { ⌜ (kind < 4) × (x < 65536) ⌝ }
+    requires { ⌜ (kind < length kinds) × (x < 65536) ⌝ }
     ensures { λ r. ⌜ r ≡ within (getD (kindAt kind .ranges) i anything) x ⌝ }
 {
     if 8 <= i {
@@ -207,7 +209,7 @@ fn sequential_rule(e: &[u8], i: usize, x: u64) -> bool
 
 // Does x at place i keep the rules that it has with the entry's numbers before it?
 fn rule(kind: usize, e: &[u8], i: usize, x: u64) -> bool
-    requires { ⌜ (kind < 4) × (i < length (numbersOf (now e))) ⌝ }
+    requires { ⌜ (kind < length kinds) × (i < length (numbersOf (now e))) ⌝ }
     ensures { λ r. ⌜ r ≡ kindAt kind .rule (take i (numbersOf (now (e .entry)))) x ⌝ }
 {
     if kind == 1 {
@@ -221,7 +223,7 @@ fn rule(kind: usize, e: &[u8], i: usize, x: u64) -> bool
 
 // Is the number at place i of the entry right?
 fn right_at(kind: usize, e: &[u8], i: usize) -> bool
-    requires { ⌜ (kind < 4) × (i < length (numbersOf (now e))) ⌝ }
+    requires { ⌜ (kind < length kinds) × (i < length (numbersOf (now e))) ⌝ }
     ensures { λ r. ⌜ r ≡ right (kindAt kind) (numbersOf (now (e .entry))) i ⌝ }
 {
     let x = numbers::number(e, i);
@@ -232,7 +234,7 @@ fn right_at(kind: usize, e: &[u8], i: usize) -> bool
 }
 
 // What reading an entry comes to; the place is counted in numbers from the entry's start.
-pub enum Walk {
+enum Walk {
     Ends(usize),
     Broken(usize),
     Short,
@@ -240,7 +242,7 @@ pub enum Walk {
 
 // The numbers of the entry that the stretch begins with: the first that is missing or not right, or the entry's end.
 fn entry_numbers(kind: usize, e: &[u8]) -> Walk
-    requires { ⌜ kind < 4 ⌝ }
+    requires { ⌜ kind < length kinds ⌝ }
     ensures { λ r. ⌜ walkOf r ≡ entryRead kind (numbersOf (now (e .entry))) ⌝ }
 {
     let key = key_len(kind);
@@ -263,7 +265,7 @@ fn entry_numbers(kind: usize, e: &[u8]) -> Walk
 
 // Does the key of the entry that b begins with come after that of a?
 fn rises_after(kind: usize, a: &[u8], b: &[u8]) -> bool
-    requires { ⌜ (kind < 4) × (kindAt kind .key ≤ length (numbersOf (now b))) ⌝ }
+    requires { ⌜ (kind < length kinds) × (kindAt kind .key ≤ length (numbersOf (now b))) ⌝ }
     ensures { λ r. ⌜ r ≡ risesAfter kind (numbersOf (now (a .entry))) (numbersOf (now (b .entry))) ⌝ }
 {
     let key = key_len(kind);
@@ -289,7 +291,7 @@ fn rises_after(kind: usize, a: &[u8], b: &[u8]) -> bool
 // Is the whole key of the entry at a place there, and does it not rise over that of the entry at prev (0: there is
 // none)?
 fn key_falls(kind: usize, part: &[u8], prev: usize, at: usize) -> bool
-    requires { ⌜ (kind < 4) × ((prev ≤ at) × (at ≤ length (numbersOf (now part)))) ⌝ }
+    requires { ⌜ (kind < length kinds) × ((prev ≤ at) × (at ≤ length (numbersOf (now part)))) ⌝ }
     ensures { λ r. ⌜ r
         ≡ keyFalls (kindAt kind) (keyAt (kindAt kind) prev (numbersOf (now (part .entry))))
         (drop at (numbersOf (now (part .entry)))) ⌝ }
@@ -311,7 +313,7 @@ fn key_falls(kind: usize, part: &[u8], prev: usize, at: usize) -> bool
 
 // The entry at a place of a section.
 fn entry_at(kind: usize, part: &[u8], prev: usize, at: usize) -> Walk
-    requires { ⌜ (kind < 4) × ((prev ≤ at) × (at ≤ length (numbersOf (now part)))) ⌝ }
+    requires { ⌜ (kind < length kinds) × ((prev ≤ at) × (at ≤ length (numbersOf (now part)))) ⌝ }
     ensures { λ r. ⌜ walkOf r ≡ entryAfter kind prev at (numbersOf (now (part .entry))) ⌝ }
 {
     if key_falls(kind, part, prev, at) {
@@ -323,7 +325,7 @@ fn entry_at(kind: usize, part: &[u8], prev: usize, at: usize) -> Walk
 
 // Is the entry at a place under the key?
 fn under(kind: usize, part: &[u8], at: usize, severity: u64, letter: u64, column: u64) -> bool
-    requires { ⌜ (kind < 4) × (at + kindAt kind .key ≤ length (numbersOf (now part))) ⌝ }
+    requires { ⌜ (kind < length kinds) × (at + kindAt kind .key ≤ length (numbersOf (now part))) ⌝ }
     ensures { λ r. ⌜ r ≡ underAt kind at severity letter column (numbersOf (now (part .entry))) ⌝ }
 {
     if key_len(kind) == 2 {
@@ -351,7 +353,7 @@ fn first_under(
     letter: u64,
     column: u64,
 ) -> usize
-    requires { ⌜ (kind < 4) × ((1 ≤ at) × ((seen ≤ at) × (at + kindAt kind .key ≤ length (numbersOf (now part))))) ⌝ }
+    requires { ⌜ (kind < length kinds) × ((1 ≤ at) × ((seen ≤ at) × (at + kindAt kind .key ≤ length (numbersOf (now part))))) ⌝ }
     ensures { λ r. ⌜ (r ≤ at)
         × (foundAt (kindAt kind) r (numbersOf (now (part .entry)))
         ≡ orElse (foundAt (kindAt kind) seen (numbersOf (now (part .entry))))
@@ -368,7 +370,7 @@ fn first_under(
 
 // What reading sections comes to: their end, with the place of the entry under the key (0: none is), in numbers from
 // the start.
-pub enum Stretch {
+enum Stretch {
     Ends(usize, usize),
     Broken(usize),
     Short,
@@ -376,7 +378,7 @@ pub enum Stretch {
 
 // A section, from the start of the part.
 fn check_section(kind: usize, part: &[u8], severity: u64, letter: u64, column: u64) -> Stretch
-    requires { ⌜ kind < 4 ⌝ }
+    requires { ⌜ kind < length kinds ⌝ }
     ensures { λ r. ⌜ SectionRead kind severity letter column (numbersOf (now (part .entry))) r ⌝ }
 {
     if numbers::count(part) == 0 {
@@ -422,13 +424,13 @@ fn held_place(kind: usize, asked: usize, held: usize, at: usize, seen: usize) ->
 
 // The four sections, each as its own part of the book; what stands under the key in the one that is asked for.
 fn check_sections(book: &[u8], asked: usize, severity: u64, letter: u64, column: u64) -> Stretch
-    requires { ⌜ asked < 4 ⌝ }
+    requires { ⌜ asked < length kinds ⌝ }
     ensures { λ r. ⌜ SectionsRead asked severity letter column (numbersOf (now (book .entry))) r ⌝ }
 {
     let mut at = 0;
     let mut held = 0;
     let mut kind = 0;
-    while kind < 4 {
+    while kind < KINDS {
         let from = 2 * at;
         match check_section(kind, &book[from..], severity, letter, column) {
             Stretch::Ends(size, seen) => {
@@ -449,7 +451,7 @@ fn check_sections(book: &[u8], asked: usize, severity: u64, letter: u64, column:
 
 // What looking up finds: the byte at which the book is broken, nothing under the key, or the place of the entry, in
 // numbers from the book's start.
-pub enum Place {
+enum Place {
     Broken(usize),
     Nothing,
     At(usize),
@@ -457,7 +459,7 @@ pub enum Place {
 
 // The entry of a sound book in the section that is asked for, by one pass over the book.
 fn find(book: &[u8], asked: usize, severity: u64, letter: u64, column: u64) -> Place
-    requires { ⌜ asked < 4 ⌝ }
+    requires { ⌜ asked < length kinds ⌝ }
     ensures { λ r. ⌜ Finds asked severity letter column (now (book .entry)) r ⌝ }
 {
     let len = book.len();
