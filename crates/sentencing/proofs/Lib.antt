@@ -1,2 +1,4 @@
+pub mod Judging
 pub mod One
+pub mod Planning
 pub mod Taking

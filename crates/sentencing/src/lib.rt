@@ -2,14 +2,27 @@
 ghost use mathlib.Core.Path.{_≡_};
 ghost use mathlib.Core.Bool.{false, _&&_};
 ghost use lib.Dec.{ltb};
-ghost use Rattle.rules.specs.Refusals.{andThen};
+ghost use Rattle.rules.specs.Refusals.{refused, andThen};
 ghost use Rattle.rules.specs.Codes.{countsItems};
+ghost use Rattle.rules.specs.Book.{checkBook, onSound};
 ghost use Rattle.rules.specs.Entries.{eventFor, singleCounts, totalOn, judgeTotal, closeTotal};
-ghost use Rattle.plans.specs.Paper.{asked, planPaper};
+ghost use Rattle.rules.specs.Entries.{singlePlan, sequentialPlan, variablesPlan};
+ghost use Rattle.rules.specs.Entries.{judgeSingle, judgeSequential, judgeVariables, closeSingle};
+ghost use Rattle.plans.specs.Paper.{asked, planPaper, paperOf};
 ghost use Rattle.severity.specs.Paper.{paperLot, paperEvent, paperRecord};
 ghost use Rattle.sentencing.specs.Paper.{offered, counting, judgedPaper, singlePaper, closedPaper, closesSingle};
+ghost use Rattle.sentencing.specs.Paper.{refusalPaper, sequentialPlanned, sequentialPaper};
+ghost use Rattle.sentencing.specs.Paper.{variablesPlanned, variablesPaper};
+use book::BookAnswer;
+use book::ReducedAnswer;
+use gauge::Gauged;
+use gauge::ReadingsVerdict;
+use gauge::VariablesPlan;
+use plans::LetterAnswer;
 use plans::PlanAnswer;
 use plans::SinglePlan;
+use samples::SampleAnswer;
+use samples::SequentialPlan;
 use samples::Verdict;
 use severity::Event;
 use severity::Origin;
@@ -136,4 +149,258 @@ pub fn close_total(
         return take_single(old, again, column, answer);
     }
     SingleClosing::Refused(1, 0)
+}
+
+struct Refusal {
+    number: u8,
+    place: usize,
+}
+
+// "12 first": the book's refusal before another.
+fn first_refusal(book: &[u8], number: u8, place: usize) -> Refusal
+    ensures { λ r. ⌜ refusalPaper r ≡ onSound (checkBook (now (book .entry))) (refused number place) ⌝ }
+{
+    match book::check_book(book) {
+        BookAnswer::Refused(first, byte) => Refusal {
+            number: first,
+            place: byte,
+        },
+        BookAnswer::Sound => Refusal { number, place },
+    }
+}
+
+// "Reduced singles come from the plan book, by the Table 1 letter; a size at or above the lot is cut alike."
+fn reduced_plan(size: u32, level: u32, column: u32, book: &[u8]) -> PlanAnswer
+    ensures { λ r. ⌜ paperOf r ≡ singlePlan (asked 2 size level column) (now (book .entry)) ⌝ }
+{
+    match plans::asked_letter(2, size, level, column) {
+        LetterAnswer::Refused(number, place) => {
+            let first = first_refusal(book, number, place);
+            PlanAnswer::Refused(first.number, first.place)
+        }
+        LetterAnswer::Given(letter) => match book::find_reduced(book, letter as u32, column) {
+            ReducedAnswer::Refused(number, place) => PlanAnswer::Refused(number, place),
+            ReducedAnswer::Given { n, ac } => {
+                let cut = plans::cut(size, n);
+                PlanAnswer::Given(SinglePlan { letter, n: cut, ac })
+            }
+        },
+    }
+}
+
+// The single plan of a lot.
+pub fn single_plan(size: u32, level: u32, column: u32, severity: u32, book: &[u8]) -> PlanAnswer
+    ensures { λ r. ⌜ paperOf r ≡ singlePlan (asked severity size level column) (now (book .entry)) ⌝ }
+{
+    if severity == 2 {
+        return reduced_plan(size, level, column, book);
+    }
+    match book::check_book(book) {
+        BookAnswer::Refused(number, byte) => PlanAnswer::Refused(number, byte),
+        BookAnswer::Sound => plans::table_plan(severity, size, level, column),
+    }
+}
+
+// The verdict on a single sample, with its plan.
+pub fn judge_single(
+    size: u32,
+    level: u32,
+    column: u32,
+    severity: u32,
+    book: &[u8],
+    sample: &[u8],
+) -> SingleAnswer
+    ensures { λ r. ⌜ singlePaper r
+        ≡ judgeSingle (asked severity size level column) (now (book .entry)) (now (sample .entry)) ⌝ }
+{
+    match single_plan(size, level, column, severity, book) {
+        PlanAnswer::Refused(number, place) => SingleAnswer::Refused(number, place),
+        PlanAnswer::Given(plan) => match samples::single_sample(column, plan, sample) {
+            SampleAnswer::Refused(number, place) => SingleAnswer::Refused(number, place),
+            SampleAnswer::Given(verdict) => SingleAnswer::Given(SingleJudged { plan, verdict }),
+        },
+    }
+}
+
+// A lot closed from a single sample: the verdict with its plan, and the next record.
+pub fn close_single(
+    old: Record,
+    again: bool,
+    size: u32,
+    level: u32,
+    column: u32,
+    book: &[u8],
+    sample: &[u8],
+) -> SingleClosing
+    ensures { λ r. ⌜ closedPaper r
+        ≡ closeSingle (paperRecord old) (offered again size level column) (now (book .entry)) (now (sample .entry)) ⌝ }
+{
+    if severity::in_range(old) {
+        let answer = judge_single(size, level, column, old.severity as u32, book, sample);
+        return take_single(old, again, column, answer);
+    }
+    let first = first_refusal(book, 1, 0);
+    SingleClosing::Refused(first.number, first.place)
+}
+
+// A lot judged on a sequential plan.
+pub struct SequentialJudged {
+    pub plan: SequentialPlan,
+    pub verdict: Verdict,
+}
+
+pub enum SequentialAnswer {
+    Refused(u8, usize),
+    Given(SequentialJudged),
+}
+
+enum SequentialPlanned {
+    Refused(u8, usize),
+    Given(SequentialPlan),
+}
+
+fn sequential_plan(
+    size: u32,
+    level: u32,
+    column: u32,
+    severity: u32,
+    book: &[u8],
+) -> SequentialPlanned
+    ensures { λ r. ⌜ sequentialPlanned r ≡ sequentialPlan (asked severity size level column) (now (book .entry)) ⌝ }
+{
+    match plans::asked_letter(severity, size, level, column) {
+        LetterAnswer::Refused(number, place) => {
+            let first = first_refusal(book, number, place);
+            SequentialPlanned::Refused(first.number, first.place)
+        }
+        LetterAnswer::Given(letter) => match book::find_sequential(
+            book,
+            severity,
+            letter as u32,
+            column,
+        ) {
+            book::SequentialAnswer::Refused(number, place) => SequentialPlanned::Refused(
+                number,
+                place,
+            ),
+            book::SequentialAnswer::Given {
+                ha,
+                hr,
+                g,
+                nt,
+                at_nt,
+            } => {
+                if size < nt as u32 {
+                    return SequentialPlanned::Refused(6, 0);
+                }
+                SequentialPlanned::Given(SequentialPlan {
+                    ha,
+                    hr,
+                    g,
+                    nt,
+                    at_nt,
+                })
+            }
+        },
+    }
+}
+
+// The verdict on a sequential sample, with its plan.
+pub fn judge_sequential(
+    size: u32,
+    level: u32,
+    column: u32,
+    severity: u32,
+    book: &[u8],
+    sample: &[u8],
+) -> SequentialAnswer
+    ensures { λ r. ⌜ sequentialPaper r
+        ≡ judgeSequential (asked severity size level column) (now (book .entry)) (now (sample .entry)) ⌝ }
+{
+    match sequential_plan(size, level, column, severity, book) {
+        SequentialPlanned::Refused(number, place) => SequentialAnswer::Refused(number, place),
+        SequentialPlanned::Given(plan) => match samples::sequential_sample(plan, sample) {
+            SampleAnswer::Refused(number, place) => SequentialAnswer::Refused(number, place),
+            SampleAnswer::Given(verdict) => SequentialAnswer::Given(SequentialJudged {
+                plan,
+                verdict,
+            }),
+        },
+    }
+}
+
+// A lot judged on a variables plan.
+pub struct VariablesJudged {
+    pub plan: VariablesPlan,
+    pub verdict: Gauged,
+}
+
+pub enum VariablesAnswer {
+    Refused(u8, usize),
+    Given(VariablesJudged),
+}
+
+enum VariablesPlanned {
+    Refused(u8, usize),
+    Given(VariablesPlan),
+}
+
+fn variables_plan(
+    size: u32,
+    level: u32,
+    column: u32,
+    severity: u32,
+    book: &[u8],
+) -> VariablesPlanned
+    ensures { λ r. ⌜ variablesPlanned r ≡ variablesPlan (asked severity size level column) (now (book .entry)) ⌝ }
+{
+    match plans::asked_letter(severity, size, level, column) {
+        LetterAnswer::Refused(number, place) => {
+            let first = first_refusal(book, number, place);
+            VariablesPlanned::Refused(first.number, first.place)
+        }
+        LetterAnswer::Given(letter) => match book::find_variables(
+            book,
+            severity,
+            letter as u32,
+            column,
+        ) {
+            book::VariablesAnswer::Refused(number, place) => VariablesPlanned::Refused(
+                number,
+                place,
+            ),
+            book::VariablesAnswer::Given { n, k } => {
+                if size < n as u32 {
+                    return VariablesPlanned::Refused(6, 0);
+                }
+                VariablesPlanned::Given(VariablesPlan { n, k })
+            }
+        },
+    }
+}
+
+// The verdict on readings for an upper or a lower limit, with its plan.
+pub fn judge_variables(
+    upper: bool,
+    size: u32,
+    level: u32,
+    column: u32,
+    severity: u32,
+    book: &[u8],
+    limit: i32,
+    readings: &[u8],
+) -> VariablesAnswer
+    ensures { λ r. ⌜ variablesPaper r
+        ≡ judgeVariables upper (asked severity size level column) (now (book .entry)) limit (now (readings .entry)) ⌝ }
+{
+    match variables_plan(size, level, column, severity, book) {
+        VariablesPlanned::Refused(number, place) => VariablesAnswer::Refused(number, place),
+        VariablesPlanned::Given(plan) => match gauge::judge_readings(upper, plan, limit, readings) {
+            ReadingsVerdict::Refused(number, place) => VariablesAnswer::Refused(number, place),
+            ReadingsVerdict::Judged(verdict) => VariablesAnswer::Given(VariablesJudged {
+                plan,
+                verdict,
+            }),
+        },
+    }
 }

@@ -1,0 +1,59 @@
+-- `sentencing::single_plan` meets its contract.
+-- Assumes nothing.
+use mathlib.Core.Path.{_≡_, sym, ap, _∙_}
+use denote.Ref.{now}
+use Rattle.rules.specs.Book.{checkBook}
+use Rattle.plans.specs.Paper.{asked}
+use Rattle.book.specs.Paper.{bookPaper}
+use Rattle.sentencing.proofs.Planning.{broken-first, sound-first, table-planned}
+use borrow.Author.Needs.{needs}
+use Rattle.sentencing.proofs.single_plan.Statement.{statement}
+use Rattle.sentencing.proofs.single_plan.Tie as tie
+
+reduced-plan-requires : tie.Need-reduced-plan-requires
+reduced-plan-requires c κs = search needs
+
+returns : tie.Need-returns
+returns c = rw (c .before .if1 .taken) (c .reduced-plan .ensures)
+
+check-book-requires : tie.Need-check-book-requires
+check-book-requires c κs = search needs
+
+enum-known-number : tie.Need-enum-known-number
+enum-known-number c = search needs
+
+enum-told : tie.Need-enum-told
+enum-told c = search needs
+
+table-plan-requires : tie.Need-table-plan-requires
+table-plan-requires c κs = search needs
+
+returns-2 : tie.Need-returns-2
+returns-2 c =
+    let a = c .before .before .before .before .before .before .args in
+    let s = now (a .book) in
+    broken-first (checkBook s) _ _ _
+    (sym (ap bookPaper (c .before .number .given .1)) ∙ c .before .before .before .check-book .ensures)
+    ∙ sym (table-planned (asked (a .severity) (a .size) (a .level) (a .column)) s (c .before .before .before .before .if1 .left))
+
+returns-3 : tie.Need-returns-3
+returns-3 c =
+    let a = c .before .before .before .before .before .before .args in
+    let s = now (a .book) in
+    c .table-plan .ensures
+    ∙ sound-first (checkBook s) _
+    (sym (ap bookPaper (c .before .enum-told .given .1)) ∙ c .before .before .before .check-book .ensures)
+    ∙ sym (table-planned (asked (a .severity) (a .size) (a .level) (a .column)) s (c .before .before .before .before .if1 .left))
+
+pub single-plan-spec : {M : Type 1} → statement M
+single-plan-spec =
+    tie.close
+    (tie.spec
+    reduced-plan-requires
+    returns
+    check-book-requires
+    enum-known-number
+    enum-told
+    table-plan-requires
+    returns-2
+    returns-3)

@@ -1,0 +1,101 @@
+-- `sentencing::variables_plan` meets its contract.
+-- Assumes nothing.
+use mathlib.Core.Path.{_≡_, sym, ap, _∙_}
+use Prim.Native.Nat.{ℕ}
+use borrow.Author.Tests.{lt-ltb, le-ltb}
+use denote.Ref.{now}
+use Rattle.rules.specs.Refusals.{Answer}
+use Rattle.rules.specs.Variables.{VariablesPlan}
+use Rattle.rules.specs.Book.{variablesOf}
+use Rattle.rules.specs.Entries.{unlessAbove, variablesSection, variablesPlan}
+use Rattle.plans.specs.Paper.{asked, letterPaper}
+use Rattle.book.specs.Paper.{variablesPaper}
+use Rattle.sentencing.proofs.Planning.{unasked, looked-up}
+use borrow.Author.Needs.{needs}
+use Rattle.sentencing.proofs.variables_plan.Statement.{statement}
+use Rattle.sentencing.proofs.variables_plan.Tie as tie
+
+asked-letter-requires : tie.Need-asked-letter-requires
+asked-letter-requires c κs = search needs
+
+enum-known-number : tie.Need-enum-known-number
+enum-known-number c = search needs
+
+first-refusal-requires : tie.Need-first-refusal-requires
+first-refusal-requires c κs = search needs
+
+enum-known-letter : tie.Need-enum-known-letter
+enum-known-letter c = search needs
+
+cast-find-variables : tie.Need-cast-find-variables
+cast-find-variables c = search needs
+
+find-variables-requires : tie.Need-find-variables-requires
+find-variables-requires c κs = search needs
+
+enum-known-number-2 : tie.Need-enum-known-number-2
+enum-known-number-2 c = search needs
+
+enum-known-n : tie.Need-enum-known-n
+enum-known-n c = search needs
+
+cast-if1 : tie.Need-cast-if1
+cast-if1 c = search needs
+
+abbrev within : ℕ → VariablesPlan → Answer VariablesPlan
+within size p = unlessAbove size (p .n) p
+
+returns : tie.Need-returns
+unfolding variablesPlan
+returns c =
+    let a = c .before .before .before .before .before .before .before .before .before .before .args in
+    let q = asked (a .severity) (a .size) (a .level) (a .column) in
+    sym (rw (lt-ltb (a .size) (c .before .before .n .given .0 .0) (c .if1 .taken)))
+    ∙ looked-up variablesSection variablesOf (within (a .size)) q (now (a .book)) _ _
+    (sym (c .before .before .before .before .before .before .before .before .asked-letter .ensures) ∙ ap letterPaper (c .before .before .before .before .before .before .letter .given .1))
+    (sym (ap variablesPaper (c .before .before .n .given .1)) ∙ c .before .before .before .before .find-variables .ensures)
+
+returns-2 : tie.Need-returns-2
+unfolding variablesPlan
+returns-2 c =
+    let a = c .before .before .before .before .before .before .args in
+    let q = asked (a .severity) (a .size) (a .level) (a .column) in
+    unasked variablesSection variablesOf (within (a .size)) q (now (a .book)) _ _ _ _
+    (sym (c .before .before .before .before .asked-letter .ensures) ∙ ap letterPaper (c .before .before .number .given .1)) (c .first-refusal .ensures)
+
+returns-3 : tie.Need-returns-3
+unfolding variablesPlan
+returns-3 c =
+    let a = c .before .before .before .before .before .before .before .before .before .args in
+    let q = asked (a .severity) (a .size) (a .level) (a .column) in
+    looked-up variablesSection variablesOf (within (a .size)) q (now (a .book)) _ _
+    (sym (c .before .before .before .before .before .before .before .asked-letter .ensures) ∙ ap letterPaper (c .before .before .before .before .before .letter .given .1))
+    (sym (ap variablesPaper (c .before .number2 .given .1)) ∙ c .before .before .before .find-variables .ensures)
+
+returns-4 : tie.Need-returns-4
+unfolding variablesPlan
+returns-4 c =
+    let a = c .before .before .before .before .before .before .before .before .before .before .args in
+    let q = asked (a .severity) (a .size) (a .level) (a .column) in
+    sym (rw (le-ltb (a .size) (c .before .before .n .given .0 .0) (c .if1 .left)))
+    ∙ looked-up variablesSection variablesOf (within (a .size)) q (now (a .book)) _ _
+    (sym (c .before .before .before .before .before .before .before .before .asked-letter .ensures) ∙ ap letterPaper (c .before .before .before .before .before .before .letter .given .1))
+    (sym (ap variablesPaper (c .before .before .n .given .1)) ∙ c .before .before .before .before .find-variables .ensures)
+
+pub variables-plan-spec : {M : Type 1} → statement M
+variables-plan-spec =
+    tie.close
+    (tie.spec
+    asked-letter-requires
+    enum-known-number
+    first-refusal-requires
+    enum-known-letter
+    cast-find-variables
+    find-variables-requires
+    enum-known-number-2
+    enum-known-n
+    cast-if1
+    returns
+    returns-2
+    returns-3
+    returns-4)
