@@ -5,16 +5,23 @@ use mathlib.Core.Path.{_≡_, refl, sym, ap, _∙_}
 use Rattle.rules.specs.Refusals.{Answer, refused, given}
 use Rattle.rules.specs.Verdict as verdicts
 use Rattle.rules.specs.Single.{Plan}
+use Rattle.rules.specs.Sequential as sequences
+use Rattle.rules.specs.Variables as gauges
+use Rattle.rules.specs.Severity as severity
 use Rattle.rules.specs.Entries.{Closed}
 use Rattle.plans.specs.declared.SinglePlan.{SinglePlan}
 use Rattle.samples.specs.declared.Verdict.{Verdict}
-use Rattle.severity.specs.Paper.{paperRecord}
 use Rattle.severity.specs.declared.Record.{Record}
-use Rattle.rules.specs.Severity as severity
 use Rattle.sentencing.specs.declared.SingleJudged.{SingleJudged}
+use Rattle.sentencing.specs.declared.SingleAnswer.{SingleAnswer}
+use Rattle.sentencing.specs.declared.SingleAnswer.the-variants as single
 use Rattle.sentencing.specs.declared.SingleClosing.{SingleClosing}
 use Rattle.sentencing.specs.declared.SingleClosing.the-variants as closing
-use Rattle.sentencing.specs.Paper.{closedPaper}
+use Rattle.sentencing.specs.declared.SequentialAnswer.{SequentialAnswer}
+use Rattle.sentencing.specs.declared.SequentialAnswer.the-variants as sequential
+use Rattle.sentencing.specs.declared.VariablesAnswer.{VariablesAnswer}
+use Rattle.sentencing.specs.declared.VariablesAnswer.the-variants as variables
+use Rattle.sentencing.specs.Paper.{singlePaper, closedPaper, sequentialPaper, variablesPaper}
 
 told : {A B : Type 0} (paper : A → B) (back : B → A) → ((a : A) → back (paper a) ≡ a) → (a b : A) → paper a ≡ paper b
     → a ≡ b
@@ -27,8 +34,8 @@ abbrev verdictBack : verdicts.Verdict → Verdict
 verdictBack v =
     record { accepted = v .accepted; used = v .used; total = v .total; stage = v .stage; stages = v .stages }
 
-abbrev singleBack : verdicts.Judged Plan verdicts.Verdict → SingleJudged
-singleBack j = record { plan = planBack (j .plan); verdict = verdictBack (j .verdict) }
+abbrev judgedBack : verdicts.Judged Plan verdicts.Verdict → SingleJudged
+judgedBack j = record { plan = planBack (j .plan); verdict = verdictBack (j .verdict) }
 
 abbrev recordBack : severity.Record → Record
 recordBack r =
@@ -42,16 +49,66 @@ recordBack r =
       permission = r .permission;
     }
 
+singleBack : Answer (verdicts.Judged Plan verdicts.Verdict) → SingleAnswer
+singleBack (refused n p) = single.Refused n p
+singleBack (given j) = single.Given (judgedBack j)
+
+-- of judge_single
+pub single-one : (a b : SingleAnswer) → singlePaper a ≡ singlePaper b → a ≡ b
+unfolding singleBack
+single-one = told singlePaper singleBack back
+  where
+    back : (a : SingleAnswer) → singleBack (singlePaper a) ≡ a
+    back (single.Refused n p) = refl
+    back (single.Given j) = refl
+
 closedBack : Answer (Closed Plan) → SingleClosing
 closedBack (refused n p) = closing.Refused n p
 closedBack (given c) =
-    closing.Given (record { judged = singleBack (c .judged); «record_after» = recordBack (c .recordAfter) })
+    closing.Given (record { judged = judgedBack (c .judged); «record_after» = recordBack (c .recordAfter) })
 
-closed-back : (a : SingleClosing) → closedBack (closedPaper a) ≡ a
-unfolding closedBack
-closed-back (closing.Refused n p) = refl
-closed-back (closing.Given c) = refl
-
--- of close_total and close_single
+-- of close_single and close_total
 pub closed-one : (a b : SingleClosing) → closedPaper a ≡ closedPaper b → a ≡ b
-closed-one = told closedPaper closedBack closed-back
+unfolding closedBack
+closed-one = told closedPaper closedBack back
+  where
+    back : (a : SingleClosing) → closedBack (closedPaper a) ≡ a
+    back (closing.Refused n p) = refl
+    back (closing.Given c) = refl
+
+sequentialBack : Answer (verdicts.Judged sequences.SequentialPlan verdicts.Verdict) → SequentialAnswer
+sequentialBack (refused n p) = sequential.Refused n p
+sequentialBack (given j) =
+    let q = j .plan in
+    sequential.Given
+    (record {
+      plan = record { ha = q .hA; hr = q .hR; g = q .g; nt = q .nt; «at_nt» = q .atNt };
+      verdict = verdictBack (j .verdict);
+    })
+
+-- of judge_sequential
+pub sequential-one : (a b : SequentialAnswer) → sequentialPaper a ≡ sequentialPaper b → a ≡ b
+unfolding sequentialBack
+sequential-one = told sequentialPaper sequentialBack back
+  where
+    back : (a : SequentialAnswer) → sequentialBack (sequentialPaper a) ≡ a
+    back (sequential.Refused n p) = refl
+    back (sequential.Given j) = refl
+
+variablesBack : Answer (verdicts.Judged gauges.VariablesPlan gauges.Gauged) → VariablesAnswer
+variablesBack (refused n p) = variables.Refused n p
+variablesBack (given j) =
+    variables.Given
+    (record {
+      plan = record { n = j .plan .n; k = j .plan .k };
+      verdict = record { accepted = j .verdict .accepted; used = j .verdict .used };
+    })
+
+-- of judge_variables
+pub variables-one : (a b : VariablesAnswer) → variablesPaper a ≡ variablesPaper b → a ≡ b
+unfolding variablesBack
+variables-one = told variablesPaper variablesBack back
+  where
+    back : (a : VariablesAnswer) → variablesBack (variablesPaper a) ≡ a
+    back (variables.Refused n p) = refl
+    back (variables.Given j) = refl

@@ -2,7 +2,8 @@
 -- Assumes nothing.
 use mathlib.Core.Path.{_≡_, sym, ap, _∙_}
 use denote.Ref.{now}
-use Rattle.rules.specs.Book.{checkBook}
+use Rattle.rules.specs.Book.{checkBook, onSound}
+use Rattle.rules.specs.Entries.{plainPlan, singlePlan}
 use Rattle.plans.specs.Paper.{asked}
 use Rattle.book.specs.Paper.{bookPaper}
 use Rattle.sentencing.proofs.Planning.{broken-first, sound-first, table-planned}
@@ -28,22 +29,26 @@ enum-told c = search needs
 table-plan-requires : tie.Need-table-plan-requires
 table-plan-requires c κs = search needs
 
+-- from the tables, once the book is sound
+tables : (c : tie.Else1) → let a = c .before .before .args in
+    let q = asked (a .severity) (a .size) (a .level) (a .column) in
+    onSound (checkBook (now (a .book))) (plainPlan q) ≡ singlePlan q (now (a .book))
+tables c =
+    let a = c .before .before .args in
+    sym (table-planned (asked (a .severity) (a .size) (a .level) (a .column)) (now (a .book)) (c .if1 .left))
+
 returns-2 : tie.Need-returns-2
 returns-2 c =
-    let a = c .before .before .before .before .before .before .args in
-    let s = now (a .book) in
-    broken-first (checkBook s) _ _ _
+    broken-first (checkBook (now (c .before .before .before .before .before .before .args .book))) _ _ _
     (sym (ap bookPaper (c .before .number .given .1)) ∙ c .before .before .before .check-book .ensures)
-    ∙ sym (table-planned (asked (a .severity) (a .size) (a .level) (a .column)) s (c .before .before .before .before .if1 .left))
+    ∙ tables (c .before .before .before .before)
 
 returns-3 : tie.Need-returns-3
 returns-3 c =
-    let a = c .before .before .before .before .before .before .args in
-    let s = now (a .book) in
     c .table-plan .ensures
-    ∙ sound-first (checkBook s) _
+    ∙ sound-first (checkBook (now (c .before .before .before .before .before .before .args .book))) _
     (sym (ap bookPaper (c .before .enum-told .given .1)) ∙ c .before .before .before .check-book .ensures)
-    ∙ sym (table-planned (asked (a .severity) (a .size) (a .level) (a .column)) s (c .before .before .before .before .if1 .left))
+    ∙ tables (c .before .before .before .before)
 
 pub single-plan-spec : {M : Type 1} → statement M
 single-plan-spec =

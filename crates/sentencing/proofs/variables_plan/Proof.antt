@@ -3,12 +3,14 @@
 use mathlib.Core.Path.{_≡_, sym, ap, _∙_}
 use Prim.Native.Nat.{ℕ}
 use borrow.Author.Tests.{lt-ltb, le-ltb}
+use mathlib.Core.List.{List}
 use denote.Ref.{now}
-use Rattle.rules.specs.Refusals.{Answer}
+use Rattle.rules.specs.Refusals.{Answer, given, andThen}
 use Rattle.rules.specs.Variables.{VariablesPlan}
 use Rattle.rules.specs.Book.{variablesOf}
-use Rattle.rules.specs.Entries.{unlessAbove, variablesSection, variablesPlan}
+use Rattle.rules.specs.Entries.{Asked, askedLetter, unlessAbove, variablesSection, variablesPlan}
 use Rattle.plans.specs.Paper.{asked, letterPaper}
+use Rattle.book.specs.declared.VariablesAnswer.{VariablesAnswer}
 use Rattle.book.specs.Paper.{variablesPaper}
 use Rattle.sentencing.proofs.Planning.{unasked, looked-up}
 use borrow.Author.Needs.{needs}
@@ -42,45 +44,55 @@ enum-known-n c = search needs
 cast-if1 : tie.Need-cast-if1
 cast-if1 c = search needs
 
+abbrev lot : tie.After-letter → Asked
+lot c =
+    let a = c .before .before .before .before .args in
+    asked (a .severity) (a .size) (a .level) (a .column)
+
+abbrev bytes : tie.After-letter → List ℕ
+bytes c = now (c .before .before .before .before .args .book)
+
+has : (c : tie.After-letter) → askedLetter (lot c) ≡ given (c .letter .given .0 .0)
+has c = sym (c .before .before .asked-letter .ensures) ∙ ap letterPaper (c .letter .given .1)
+
 abbrev within : ℕ → VariablesPlan → Answer VariablesPlan
 within size p = unlessAbove size (p .n) p
 
-returns : tie.Need-returns
+-- what is held under the letter, within the lot
+supplied : (c : tie.After-find-variables) (r : VariablesAnswer) → c .find-variables .result ≡ r
+    → let q = lot (c .before .before) in
+    andThen (variablesPaper r) (within (q .size)) ≡ variablesPlan q (bytes (c .before .before))
 unfolding variablesPlan
+supplied c r e =
+    let q = lot (c .before .before) in
+    looked-up variablesSection variablesOf (within (q .size)) q (bytes (c .before .before))
+    _ _ (has (c .before .before))
+    (sym (ap variablesPaper e) ∙ c .find-variables .ensures)
+
+returns : tie.Need-returns
 returns c =
-    let a = c .before .before .before .before .before .before .before .before .before .before .args in
-    let q = asked (a .severity) (a .size) (a .level) (a .column) in
-    sym (rw (lt-ltb (a .size) (c .before .before .n .given .0 .0) (c .if1 .taken)))
-    ∙ looked-up variablesSection variablesOf (within (a .size)) q (now (a .book)) _ _
-    (sym (c .before .before .before .before .before .before .before .before .asked-letter .ensures) ∙ ap letterPaper (c .before .before .before .before .before .before .letter .given .1))
-    (sym (ap variablesPaper (c .before .before .n .given .1)) ∙ c .before .before .before .before .find-variables .ensures)
+    sym (rw (lt-ltb (lot (c .before .before .before .before .before .before) .size)
+    (c .before .before .n .given .0 .0) (c .if1 .taken)))
+    ∙ supplied (c .before .before .before .before) _ (c .before .before .n .given .1)
 
 returns-2 : tie.Need-returns-2
 unfolding variablesPlan
 returns-2 c =
     let a = c .before .before .before .before .before .before .args in
-    let q = asked (a .severity) (a .size) (a .level) (a .column) in
-    unasked variablesSection variablesOf (within (a .size)) q (now (a .book)) _ _ _ _
-    (sym (c .before .before .before .before .asked-letter .ensures) ∙ ap letterPaper (c .before .before .number .given .1)) (c .first-refusal .ensures)
+    unasked variablesSection variablesOf (within (a .size)) (asked (a .severity) (a .size) (a .level) (a .column))
+    (now (a .book)) _ _ _ _
+    (sym (c .before .before .before .before .asked-letter .ensures)
+    ∙ ap letterPaper (c .before .before .number .given .1))
+    (c .first-refusal .ensures)
 
 returns-3 : tie.Need-returns-3
-unfolding variablesPlan
-returns-3 c =
-    let a = c .before .before .before .before .before .before .before .before .before .args in
-    let q = asked (a .severity) (a .size) (a .level) (a .column) in
-    looked-up variablesSection variablesOf (within (a .size)) q (now (a .book)) _ _
-    (sym (c .before .before .before .before .before .before .before .asked-letter .ensures) ∙ ap letterPaper (c .before .before .before .before .before .letter .given .1))
-    (sym (ap variablesPaper (c .before .number2 .given .1)) ∙ c .before .before .before .find-variables .ensures)
+returns-3 c = supplied (c .before .before .before) _ (c .before .number2 .given .1)
 
 returns-4 : tie.Need-returns-4
-unfolding variablesPlan
 returns-4 c =
-    let a = c .before .before .before .before .before .before .before .before .before .before .args in
-    let q = asked (a .severity) (a .size) (a .level) (a .column) in
-    sym (rw (le-ltb (a .size) (c .before .before .n .given .0 .0) (c .if1 .left)))
-    ∙ looked-up variablesSection variablesOf (within (a .size)) q (now (a .book)) _ _
-    (sym (c .before .before .before .before .before .before .before .before .asked-letter .ensures) ∙ ap letterPaper (c .before .before .before .before .before .before .letter .given .1))
-    (sym (ap variablesPaper (c .before .before .n .given .1)) ∙ c .before .before .before .before .find-variables .ensures)
+    sym (rw (le-ltb (lot (c .before .before .before .before .before .before) .size)
+    (c .before .before .n .given .0 .0) (c .if1 .left)))
+    ∙ supplied (c .before .before .before .before) _ (c .before .before .n .given .1)
 
 pub variables-plan-spec : {M : Type 1} → statement M
 variables-plan-spec =
