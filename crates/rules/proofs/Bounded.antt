@@ -5,6 +5,7 @@ use mathlib.Core.List.{List, [], _∷_}
 use Prim.Native.Nat.{ℕ, zero, suc, _<_, _≤_, zero-le}
 use native.Mathlib.Nat.{not-suc-le-zero, le-of-suc-le-suc}
 use mathlib.Core.Path.{_≡_, refl}
+use native.Mathlib.Omega.{arith}
 use borrow.Author.Tests.{leb-true, leb-false}
 use lib.Dec.{T, leb, leb→le}
 use lib.ListN.{getD}
@@ -62,3 +63,7 @@ by-le-at a b false e f g = g (leb-false a b e)
 -- by cases on an order
 pub by-le : {P : Type 0} (a b : ℕ) → (a ≤ b → P) → (b < a → P) → P
 by-le a b f g = by-le-at a b (leb a b) refl f g
+
+-- from two cases that cannot both be
+pub never : {P : Type 0} → _≡_ {A = ℕ} 0 1 → P
+never e = absurd (omega arith)

@@ -12,14 +12,11 @@ use Rattle.rules.specs.Severity.{Lot, Event, lot, resubmitted, correctiv
 use Rattle.rules.specs.Severity.{Record, fresh, step, onLot, onResubmitted, onCorrective}
 use Rattle.rules.specs.History.{Work, eventIn, placed}
 use Rattle.rules.proofs.Histories.{From, from-suc, from-first}
-use Rattle.rules.proofs.Bounded.{by-le}
+use Rattle.rules.proofs.Bounded.{by-le, never}
 use Rattle.rules.proofs.Answers.{refused-given}
 use Rattle.rules.proofs.Refusals.{Row, here, later, NoRow, Reports, stops, passes, nothing-wrong, last-from}
 use Rattle.rules.proofs.Refusals.{refused-number, refused-place}
 use Rattle.rules.proofs.EntryLaws.{lot-on}
-
-never : {P : Type 0} → _≡_ {A = ℕ} 0 1 → P
-never e = absurd (omega arith)
 
 -- An event: 1 for one of no known form, 5 for any lot while stopped, 10 for a corrective order when not stopped.
 abbrev pub IsLot : Event → Type 0

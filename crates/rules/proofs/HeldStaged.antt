@@ -185,7 +185,7 @@ unfolding every
 every-length p s zero e = refl
 every-length p s (suc n) e = ap suc (every-length (p + s) s n e)
 
-every-at : (p s n : ℕ) (e : List ℕ) (i : ℕ) → i < n → getD (every p s n e) i 0 ≡ getD e (p + s * i) 0
+pub every-at : (p s n : ℕ) (e : List ℕ) (i : ℕ) → i < n → getD (every p s n e) i 0 ≡ getD e (p + s * i) 0
 unfolding every
 every-at p s zero e i h = let z : ⊥ = omega arith in absurd z
 every-at p s (suc n) e zero h = let z : p + s * 0 ≡ p = omega arith in rw z

@@ -21,6 +21,7 @@ pub mod Landing
 pub mod LookUp
 pub mod Numbers
 pub mod Parts
+pub mod PrintedTables
 pub mod Range
 pub mod Readings
 pub mod Refusals
@@ -36,6 +37,7 @@ pub mod Stays
 pub mod Steps
 pub mod Switches
 pub mod Tables
+pub mod Terminal
 pub mod Walks
 pub mod Window
 pub mod Worked

@@ -137,7 +137,7 @@ sound-ends bytes e = go (ltb largestBook (length bytes)) (sections kinds (number
     go false (broken p) h = broken-unsound h
     go false short h = broken-unsound h
 
-same-key : (a b : List ℕ) → sameKey a b ≡ true → a ≡ b
+pub same-key : (a b : List ℕ) → sameKey a b ≡ true → a ≡ b
 unfolding sameKey
 same-key [] [] h = refl
 same-key [] (b ∷ ys) h = absurd (true≢false (sym h))

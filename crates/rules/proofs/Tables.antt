@@ -2,13 +2,14 @@
 -- the box one column tighter.
 -- Assumes nothing.
 use Prim.Native.Nat.{ℕ, zero, suc, _+_, _-_, _*_, _≤_, _<_}
-use mathlib.Core.Path.{_≡_, ap, subst}
+use mathlib.Core.Path.{_≡_, refl, ap, subst}
 use mathlib.Core.Bool.{Bool, true, false}
 use native.Mathlib.Omega.{arith}
 use lib.Dec.{T, leb, leb→le, le→leb, eqb, eqb→eq, ltb, ltb→lt}
-use Rattle.rules.specs.Codes.{normal, letterA, letterOf, tableOne, rowOf}
-use Rattle.rules.specs.Single.{Box, down, up, number, boxAt, landing, landingOf, tighterAc}
-use Rattle.rules.proofs.Bounded.{implies, implies-at, all, all-at₂, all-at₃, each-at}
+use Rattle.rules.specs.Codes.{normal, tightened, letterA, letterR, letterOf, tableOne, rowOf}
+use Rattle.rules.specs.Single.{Box, down, up, number, boxAt, Landing, landed, follow, landing, arrows}
+use Rattle.rules.specs.Single.{landingOf, tighterAc}
+use Rattle.rules.proofs.Bounded.{implies, implies-at, all, all-at₂, all-at₃, each-at, never}
 
 -- Table 1 has no letter past R.
 pub letter-within : (size level : ℕ) → letterOf size level < 16
@@ -26,14 +27,6 @@ holds-it down ac t = absurd t
 holds-it up ac t = absurd t
 holds-it (number a) ac t = ap number (eqb→eq a ac t)
 
-ends : ℕ → ℕ → ℕ → Bool
-ends severity column letter =
-    holds (boxAt severity column (landingOf severity column letter .letter)) (landingOf severity column letter .ac)
-
-ends-all : T (all 2 (λ severity. all 26 (λ column. all 16 (ends severity column))))
-unfolding ends holds landing boxAt
-ends-all = tt
-
 has : ℕ → ℕ → ℕ → Bool
 has severity column letter = ltb (landingOf severity column letter .letter) 17
 
@@ -41,12 +34,97 @@ has-all : T (all 2 (λ severity. all 26 (λ column. all 16 (has severity column)
 unfolding has landing boxAt
 has-all = tt
 
+-- Arrows as the table has them, counted: so many lead from a letter to a box with a number.
+pub data Leads (severity column : ℕ) : ℕ → ℕ → Landing → Type 0 where
+  there : (letter ac : ℕ) → boxAt severity column letter ≡ number ac → Leads severity column letter 0 (landed letter ac)
+  downward : (letter k : ℕ) (l : Landing) → boxAt severity column letter ≡ down → Leads severity column (letter + 1) k l
+      → Leads severity column letter (suc k) l
+  upward : (letter k : ℕ) (l : Landing) → boxAt severity column letter ≡ up → Leads severity column (letter - 1) k l
+      → Leads severity column letter (suc k) l
+
+led-to : (severity column letter k : ℕ) (l : Landing) → Leads severity column letter k l
+    → boxAt severity column (l .letter) ≡ number (l .ac)
+led-to severity column letter k l (there _ ac e) = e
+led-to severity column letter k l (downward _ j _ e r) = led-to severity column (letter + 1) j l r
+led-to severity column letter k l (upward _ j _ e r) = led-to severity column (letter - 1) j l r
+
+-- They lead to one landing, and are so many.
+pub leads-one : (severity column letter k m : ℕ) (a b : Landing) → Leads severity column letter k a
+    → Leads severity column letter m b → (k ≡ m) × (a ≡ b)
+leads-one severity column letter k m a b (there _ ac e) (there _ bc f) =
+    let n : ac ≡ bc = cc in (refl, ap (landed letter) n)
+leads-one severity column letter k m a b (there _ ac e) (downward _ j l f r) = never cc
+leads-one severity column letter k m a b (there _ ac e) (upward _ j l f r) = never cc
+leads-one severity column letter k m a b (downward _ i h e q) (there _ bc f) = never cc
+leads-one severity column letter k m a b (downward _ i h e q) (downward _ j l f r) =
+    let o = leads-one severity column (letter + 1) i j a b q r in (ap suc (o .0), o .1)
+leads-one severity column letter k m a b (downward _ i h e q) (upward _ j l f r) = never cc
+leads-one severity column letter k m a b (upward _ i h e q) (there _ bc f) = never cc
+leads-one severity column letter k m a b (upward _ i h e q) (downward _ j l f r) = never cc
+leads-one severity column letter k m a b (upward _ i h e q) (upward _ j l f r) =
+    let o = leads-one severity column (letter - 1) i j a b q r in (ap suc (o .0), o .1)
+
+-- the arrows counted, one more than are left where they do not end
+countAt : Box → ℕ → (ℕ → ℕ) → ℕ
+countAt down letter next = suc (next (letter + 1))
+countAt up letter next = suc (next (letter - 1))
+countAt (number ac) letter next = 0
+
+count : ℕ → ℕ → ℕ → ℕ → ℕ
+count zero severity column letter = countAt (boxAt severity column letter) letter (λ next. 0)
+count (suc left) severity column letter = countAt (boxAt severity column letter) letter (count left severity column)
+
+abbrev Led : ℕ → ℕ → ℕ → ℕ → Type 0
+Led left severity column letter =
+    count left severity column letter ≤ left
+    → Leads severity column letter (count left severity column letter) (landing left severity column letter)
+
+led : (left severity column letter : ℕ) → Led left severity column letter
+unfolding count countAt landing
+led zero severity column letter h = go (boxAt severity column letter) refl h
+  where
+    go : (b : Box) → boxAt severity column letter ≡ b → countAt b letter (λ next. 0) ≤ 0
+        → Leads severity column letter (countAt b letter (λ next. 0)) (follow b letter (λ next. landed next 0))
+    go down e h = absurd (omega arith)
+    go up e h = absurd (omega arith)
+    go (number ac) e h = there letter ac e
+led (suc left) severity column letter h =
+    go (boxAt severity column letter) refl h (led left severity column (letter + 1))
+    (led left severity column (letter - 1))
+  where
+    go : (b : Box) → boxAt severity column letter ≡ b → countAt b letter (count left severity column) ≤ suc left
+        → Led left severity column (letter + 1) → Led left severity column (letter - 1)
+        → Leads severity column letter (countAt b letter (count left severity column))
+        (follow b letter (landing left severity column))
+    go down e h d u = downward letter _ _ e (d (omega arith))
+    go up e h d u = upward letter _ _ e (u (omega arith))
+    go (number ac) e h d u = there letter ac e
+
+inTime : ℕ → ℕ → ℕ → Bool
+inTime severity column letter = leb (count arrows severity column letter) arrows
+
+in-time : T (all 2 (λ severity. all 26 (λ column. all 16 (inTime severity column))))
+unfolding inTime count countAt boxAt
+in-time = tt
+
+-- All 15 are needed: tightened A, 0.010.
+pub fifteen-needed : Leads tightened 0 letterA 15 (landed letterR 0)
+unfolding count countAt landing boxAt
+fifteen-needed = led 15 tightened 0 letterA (omega arith)
+
 module _ (severity column letter : ℕ) (s : severity < 2) (c : column < 26) (l : letter < 16) where
-  -- From the letters A to R the arrows end at a number within 15 steps, in both tables ..
+  -- From the letters A to R at most 15 arrows lead to the landing, in both tables, so that what stands in for more
+  -- arrows is never met ..
+  pub landing-led : (k : ℕ) × (k ≤ 15) × Leads severity column letter k (landingOf severity column letter)
+  unfolding inTime
+  landing-led =
+      let h = leb→le _ _ (all-at₃ 2 26 16 inTime in-time severity column letter s c l) in
+      (count arrows severity column letter, h, led arrows severity column letter h)
+
+  -- .. which is a box with a number ..
   pub landing-box : boxAt severity column (landingOf severity column letter .letter)
       ≡ number (landingOf severity column letter .ac)
-  unfolding ends
-  landing-box = holds-it _ _ (all-at₃ 2 26 16 ends ends-all severity column letter s c l)
+  landing-box = led-to severity column letter _ _ (landing-led .2)
 
   -- .. at a letter that the table has, A to S.
   pub landing-letter : landingOf severity column letter .letter < 17

@@ -1,11 +1,13 @@
 -- Document 01, 'Worked at the edges': the starred cases together, as one list under one claim, of the definitions; the
--- other cases, and edges beside them, as a second list; then lotlog's whole listing, and one of its edges.
+-- other cases, and edges beside them, as a second list; what the screen shows; then lotlog's whole listing, and two of
+-- its edges.
 -- Assumes nothing.
 use Prim.Native.Nat.{ℕ, zero, suc}
 use mathlib.Core.Path.{_≡_, refl}
 use mathlib.Core.Bool.{Bool, true, false}
 use mathlib.Core.List.{List, [], _∷_, _++_, map}
-use lib.IntN.{ℤ, pos}
+use lib.IntN.{ℤ, pos, negsuc}
+use lib.Ieee.{binary64, fin, ofBits}
 use lib.ListN.{length, getD, replicate}
 use Rattle.rules.specs.Refusals.{Answer, refused, given}
 use Rattle.rules.specs.Ascii.{ascii}
@@ -15,8 +17,9 @@ use Rattle.rules.specs.Single.{Landing, Plan, landingOf, landing, boxAt,
 use Rattle.rules.specs.Sequential.{SequentialPlan, sequentialFrom, itemDecides, judgeSequence}
 use Rattle.rules.specs.Numbers.{numbersOf, signedOf}
 use Rattle.rules.specs.Staged.{StagedPlan, mark, stagesFrom, stageDecides, takeItems, stagedFrom, judgeStages}
-use Rattle.rules.specs.Screen.{Shown, mean, meanAndVariance, shownOf, screen}
-use Rattle.rules.specs.Variables.{acceptsReadings, withinSpread, margin, spread, sumZ, squaresZ, inGauge, allInGauge}
+use Rattle.rules.specs.Screen.{Shown, mean, meanAndVariance, quotient, shownOf, screen}
+use Rattle.rules.specs.Variables.{acceptsReadings, withinSpread, margin, spread, sumZ, squaresZ, inGauge}
+use Rattle.rules.specs.Variables.{allInGauge}
 use Rattle.rules.specs.Severity.{onLot, onResubmitted, onOrder, onCorrective, step, figuresInRange}
 use Rattle.rules.specs.Reading.{severityRead, stayAfter, steadyIn, permissionIn, notAcceptedIn, runOf}
 use Rattle.rules.specs.Reading.{pointsOf, readLot, readOrder, readEvent}
@@ -144,11 +147,10 @@ onTheLines = record { hA = 1000; hR = 1800; g = 10000; nt = 50; atNt = 4 }
 planned : Plan → List ℕ
 planned p = p .letter ∷ p .n ∷ p .ac ∷ []
 
--- a mean alone, or a mean and a variance
-shownAs : Answer Shown → List ℕ
-shownAs (refused n p) = n ∷ []
-shownAs (given (mean m)) = 101 ∷ []
-shownAs (given (meanAndVariance m v)) = 102 ∷ []
+-- a refusal of the screen; what it shows stands in a list of its own
+notShown : Answer Shown → List ℕ
+notShown (refused n p) = n ∷ []
+notShown (given s) = []
 
 pub computedEdges : List (List ℕ)
 computedEdges =
@@ -165,13 +167,13 @@ computedEdges =
     ∷ verdictOf (judgeSequence onTheLines (bytesOf (replicate 10 0)))
     ∷ verdictOf (judgeSequence onTheLines (bytesOf (replicate 9 0)))
     ∷ verdictOf (judgeSequence onTheLines (bytesOf (1 ∷ 1 ∷ [])))
-    -- the screen: no reading, half a reading, one, two, 51; 1,001
-    ∷ shownAs (screen [])
-    ∷ shownAs (screen (7 ∷ []))
-    ∷ shownAs (screen (7 ∷ 0 ∷ []))
-    ∷ shownAs (screen (7 ∷ 0 ∷ 9 ∷ 0 ∷ []))
-    ∷ shownAs (screen (replicate 102 0))
-    ∷ shownAs (screen (233 ∷ 3 ∷ []))
+    -- the screen: no reading, half a reading, 50, 51; 1,000, 1,001
+    ∷ notShown (screen [])
+    ∷ notShown (screen (7 ∷ []))
+    ∷ notShown (screen (replicate 100 0))
+    ∷ notShown (screen (replicate 102 0))
+    ∷ notShown (screen (232 ∷ 3 ∷ []))
+    ∷ notShown (screen (233 ∷ 3 ∷ []))
     ∷ []
 
 pub saidEdges : List (List ℕ)
@@ -189,18 +191,41 @@ saidEdges =
     ∷ (0 ∷ 2 ∷ [])
     ∷ (7 ∷ [])
     ∷ (7 ∷ [])
-    ∷ (101 ∷ [])
-    ∷ (102 ∷ [])
+    ∷ []
     ∷ (7 ∷ [])
+    ∷ []
     ∷ (9 ∷ [])
     ∷ []
 
 -- The cases that are not starred, and edges beside them.
 pub edges : computedEdges ≡ saidEdges
-unfolding computedEdges saidEdges planned staged fiveStages bytesOf onTheLines verdictOf yesNo shownAs tablePlan
+unfolding computedEdges saidEdges planned staged fiveStages bytesOf onTheLines verdictOf yesNo notShown tablePlan
     letterOf rowOf rowFrom landing boxAt judgeStages stagedFrom stagesFrom stageDecides takeItems judgeSequence
     sequentialFrom itemDecides numbersOf screen shownOf allInGauge inGauge signedOf sumZ squaresZ
 edges = refl
+
+-- The screen's figures: 7 alone; 7 and 9, mean 8 and variance 2; −1 and 0, −1/2 and 1/2; and 1, 2, 2, whose mean 5/3
+-- and variance 1/3 are rounded, by their bits.
+pub computedScreens : List (Answer Shown)
+computedScreens =
+    screen (7 ∷ 0 ∷ [])
+    ∷ screen (7 ∷ 0 ∷ 9 ∷ 0 ∷ [])
+    ∷ screen (255 ∷ 255 ∷ 0 ∷ 0 ∷ [])
+    ∷ screen (1 ∷ 0 ∷ 2 ∷ 0 ∷ 2 ∷ 0 ∷ [])
+    ∷ []
+
+pub saidScreens : List (Answer Shown)
+saidScreens =
+    given (mean (fin false 7 (pos 0)))
+    ∷ given (meanAndVariance (fin false 1 (pos 3)) (fin false 1 (pos 1)))
+    ∷ given (meanAndVariance (fin true 1 (negsuc 0)) (fin false 1 (negsuc 0)))
+    ∷ given (meanAndVariance (ofBits binary64 4610184818551597739) (ofBits binary64 4599676419421066581))
+    ∷ []
+
+pub screens : computedScreens ≡ saidScreens
+unfolding computedScreens saidScreens screen shownOf quotient spread numbersOf allInGauge inGauge signedOf sumZ squaresZ
+    lib.Ieee.div lib.Ieee.ofInt lib.Ieee.ofBits
+screens = refl
 
 pub input : List ℕ
 input =
@@ -235,3 +260,30 @@ unfolding otherInput otherOutput log logFrom loggedAs lineOf splitAt droppingEmp
     digitsFrom printed next closeTotal judgeTotal plainPlan tablePlan landing boxAt tighterAc letterOf rowOf rowFrom
     step onLot onResubmitted onOrder onCorrective figuresInRange eventIn eventOf lib.Count.ones
 other-listing = refl
+
+-- Ten lots to reduced, where a lot has no book; steady withdrawn; sizes over and at the largest number, landing on Q, P
+-- and R, and under tightened on S; two not accepted, then five to stopped; a corrective order.
+pub thirdInput : List ℕ
+thirdInput =
+    ascii "S 1\nP 1\nL 1000 5 10 0\nL 1000 5 10 0\nL 1000 5 10 0\nL 1000 5 10 0\nL 1000 5 10 0\nL 1000 5 10 0\n"
+    ++ ascii "L 1000 5 10 0\nL 1000 5 10 0\nL 1000 5 10 0\nL 1000 5 10 0\nL 1000 5 10 0\nS 0\n"
+    ++ ascii "L 4294967295 6 0 0\nL 4294967295 6 1 0\nL 4294967295 6 2 0\nL 4294967296 6 2 0\nS 2\nP 0\n"
+    ++ ascii "L 1000 5 10 3\nL 1000 5 10 3\nL 4294967295 6 2 2\nL 1000 5 10 2\nL 1000 5 10 2\nL 1000 5 10 2\n"
+    ++ ascii "L 1000 5 10 2\nL 1000 5 10 0\nR 1000 5 10 0\nC\n"
+
+pub thirdOutput : List ℕ
+thirdOutput =
+    ascii "no sev let n ac verdict next score\n1 order N 0\n2 order N 0\n"
+    ++ ascii "3 N J 80 2 accept N 3\n4 N J 80 2 accept N 6\n5 N J 80 2 accept N 9\n6 N J 80 2 accept N 12\n"
+    ++ ascii "7 N J 80 2 accept N 15\n8 N J 80 2 accept N 18\n9 N J 80 2 accept N 21\n10 N J 80 2 accept N 24\n"
+    ++ ascii "11 N J 80 2 accept N 27\n12 N J 80 2 accept R 0\n13 refused 6\n14 order N 0\n"
+    ++ ascii "15 N Q 1250 0 accept N 2\n16 N P 800 0 accept N 4\n17 N R 2000 1 accept N 6\n18 refused 1\n"
+    ++ ascii "19 refused 1\n20 order N 6\n21 N J 80 2 reject N 0\n22 N J 80 2 reject T 0\n"
+    ++ ascii "23 T S 3150 1 reject T 0\n24 T J 80 1 reject T 0\n25 T J 80 1 reject T 0\n26 T J 80 1 reject T 0\n"
+    ++ ascii "27 T J 80 1 reject X 0\n28 refused 5\n29 refused 5\n30 order T 0\n"
+
+pub third-listing : log ours thirdInput ≡ thirdOutput
+unfolding thirdInput thirdOutput log logFrom loggedAs lineOf splitAt droppingEmptyLast allDigits valueFrom isNumber
+    digitsFrom printed next closeTotal judgeTotal plainPlan tablePlan landing boxAt tighterAc letterOf rowOf rowFrom
+    step onLot onResubmitted onOrder onCorrective figuresInRange eventIn eventOf lib.Count.ones
+third-listing = refl

@@ -1,7 +1,7 @@
 -- Small books and what checking them finds, together, as one list under one claim: each kind of fault at its byte, and
--- the numbers on both sides of each bound.
+-- the numbers on both sides of each bound of each kind of section (the 16 bits of a number are a bound of their own).
 -- Assumes nothing.
-use Prim.Native.Nat.{ℕ, _/_, _%_}
+use Prim.Native.Nat.{ℕ, _-_, _/_, _%_}
 use mathlib.Core.Path.{_≡_, refl}
 use mathlib.Core.List.{List, [], _∷_, _++_, map}
 use lib.ListN.{set, replicate}
@@ -25,6 +25,10 @@ whole =
 -- the same with another number at a place
 with : ℕ → ℕ → List ℕ
 with place x = bytesOf (set whole place x)
+
+-- one entry, in the section at a place of the order
+alone : ℕ → List ℕ → List ℕ
+alone j e = bytesOf (replicate j 0 ++ ((1 ∷ e) ++ replicate (3 - j) 0))
 
 pub record Case : Type 0 where
   pub book : List ℕ
@@ -63,36 +67,56 @@ cases =
     ∷ (with 6 25 is sound)
     ∷ (with 6 26 is brokenAt 12)
     ∷ (with 3 0 is brokenAt 6)
+    ∷ (with 3 1 is sound)
     ∷ (with 3 3150 is sound)
     ∷ (with 3 3151 is brokenAt 6)
     ∷ (with 4 65534 is sound)
     ∷ (with 4 65535 is brokenAt 8)
     -- staged: severity, letter, column, stages, sizes
+    ∷ (with 10 2 is sound)
     ∷ (with 10 3 is brokenAt 20)
+    ∷ (with 11 15 is sound)
     ∷ (with 11 16 is brokenAt 22)
     ∷ (with 12 25 is sound)
     ∷ (with 12 26 is brokenAt 24)
     ∷ (with 13 1 is brokenAt 26)
     ∷ (with 13 8 is brokenAt 26)
     ∷ (with 14 0 is brokenAt 28)
+    ∷ (with 14 1 is sound)
     ∷ (with 18 2000 is sound)
     ∷ (with 18 2001 is brokenAt 36)
-    -- a mark is exempt, stands only before numbers, and not at the last stage; "Re up to 65,534"
+    -- two stages, each number as low as it goes; seven, as high; "Re up to 65,534"
+    ∷ (alone 1 (0 ∷ 0 ∷ 0 ∷ 2 ∷ 1 ∷ 1 ∷ 0 ∷ 1 ∷ 0 ∷ 1 ∷ []) is sound)
+    ∷ (alone 1
+    ((2 ∷ 15 ∷ 25 ∷ 7 ∷ replicate 7 2000)
+    ++ (0 ∷ 1 ∷ 0 ∷ 1 ∷ 0 ∷ 1 ∷ 0 ∷ 1 ∷ 0 ∷ 1 ∷ 0 ∷ 1 ∷ 0 ∷ 1 ∷ []))
+    is sound)
+    ∷ (alone 1 (0 ∷ 0 ∷ 0 ∷ 2 ∷ 1 ∷ 1 ∷ 0 ∷ 65534 ∷ 65533 ∷ 65534 ∷ []) is sound)
+    ∷ (alone 1 (0 ∷ 0 ∷ 0 ∷ 2 ∷ 1 ∷ 1 ∷ 0 ∷ 65534 ∷ 65534 ∷ 65535 ∷ []) is brokenAt 22)
+    -- a mark is exempt, stands only before numbers, and not at the last stage; it is no Re
     ∷ (with 20 0 is sound)
     ∷ (with 20 65535 is brokenAt 40)
     ∷ (with 21 65535 is sound)
     ∷ (with 23 65535 is brokenAt 46)
     ∷ (with 27 65535 is brokenAt 54)
     -- Ac falls, Re falls, Ac is not under Re, the last Re is not Ac + 1
+    ∷ (with 23 1 is sound)
     ∷ (with 23 2 is brokenAt 50)
     ∷ (with 26 2 is brokenAt 52)
+    ∷ (with 25 2 is sound)
     ∷ (with 25 3 is brokenAt 52)
     ∷ (with 28 3 is brokenAt 56)
     ∷ (with 28 5 is brokenAt 56)
-    -- sequential: column, hA, hR, g, nt, At
+    -- sequential: severity, letter, column, hA, hR, g, nt, At; each as low as it goes, and as high
+    ∷ (with 30 2 is sound)
+    ∷ (with 30 3 is brokenAt 60)
+    ∷ (with 31 15 is sound)
+    ∷ (with 31 16 is brokenAt 62)
+    ∷ (with 32 15 is sound)
     ∷ (with 32 16 is brokenAt 64)
     ∷ (with 33 0 is brokenAt 66)
     ∷ (with 34 0 is brokenAt 68)
+    ∷ (with 35 0 is brokenAt 70)
     ∷ (with 35 60001 is brokenAt 70)
     ∷ (with 36 0 is brokenAt 72)
     ∷ (with 36 3151 is brokenAt 72)
@@ -100,16 +124,24 @@ cases =
     ∷ (with 37 7 is sound)
     ∷ (with 37 11 is sound)
     ∷ (with 37 12 is brokenAt 74)
-    -- variables: column, n, K
+    ∷ (alone 2 (0 ∷ 0 ∷ 0 ∷ 1 ∷ 1 ∷ 1 ∷ 1 ∷ 0 ∷ []) is sound)
+    ∷ (alone 2 (2 ∷ 15 ∷ 15 ∷ 65535 ∷ 65535 ∷ 60000 ∷ 3150 ∷ 1890 ∷ []) is sound)
+    -- variables: severity, letter, column, n, K; the whole book has each but n as high as it goes
+    ∷ (alone 3 (0 ∷ 0 ∷ 0 ∷ 2 ∷ 1 ∷ []) is sound)
+    ∷ (with 39 3 is brokenAt 78)
+    ∷ (with 40 16 is brokenAt 80)
     ∷ (with 41 16 is brokenAt 82)
     ∷ (with 42 1 is brokenAt 84)
+    ∷ (with 42 2 is sound)
     ∷ (with 42 50 is sound)
     ∷ (with 42 51 is brokenAt 84)
     ∷ (with 43 0 is brokenAt 86)
+    ∷ (with 43 1 is sound)
     ∷ (with 43 4001 is brokenAt 86)
     ∷ []
 
 pub worked-books : map (λ c. checkBook (c .book)) cases ≡ map (λ c. c .answer) cases
-unfolding cases whole with checkBook numbersOf checkedAs sections section entries entry shift thenFrom keyFalls rises
+unfolding cases whole with alone checkBook numbersOf checkedAs sections section entries entry shift thenFrom keyFalls
+    rises
     numbersFrom right stagedRule stagedNumber acKeeps reKeeps sequentialRule atFits
 worked-books = refl

@@ -1,0 +1,78 @@
+-- The C terminal's forms lose nothing: a record and its bytes, a refusal and its status.
+-- Assumes nothing.
+use Prim.Native.Nat.{ℕ, zero, suc, _+_, _*_, _/_, _%_, _≤_, _<_}
+use mathlib.Core.Path.{_≡_, refl, ap, sym, _∙_}
+use mathlib.Core.Logic.{_↔_}
+use mathlib.Core.Bool.{Bool, true, false, cond, _&&_, true≢false}
+use mathlib.Core.List.{List, [], _∷_}
+use native.Mathlib.Omega.{arith}
+use borrow.Author.Tests.{leb-true, eqb-true, le-leb}
+use lib.Dec.{leb, eqb}
+use lib.ListN.{length, getD}
+use lib.Seq.{ext-getD}
+use Rattle.rules.specs.Refusals.{Answer, refused, given}
+use Rattle.rules.specs.Severity.{Record, inRange, figuresInRange}
+use Rattle.rules.specs.Book.{every}
+use Rattle.rules.specs.Terminal.{statusOf, flag, bytesOf, hasForm, outOfForm, recordIn}
+use Rattle.rules.proofs.Answers.{refused-given}
+use Rattle.rules.proofs.Bools.{and-left, and-right}
+use Rattle.rules.proofs.HeldStaged.{every-length, every-at}
+
+flag-low : (b : Bool) → leb (flag b) 1 ≡ true
+flag-low true = refl
+flag-low false = refl
+
+flag-back : (b : Bool) → eqb (flag b) 1 ≡ b
+flag-back true = refl
+flag-back false = refl
+
+-- A record's bytes have the form, and are read as that record ..
+pub bytes-form : (r : Record) → hasForm (bytesOf r) ≡ true
+unfolding hasForm
+bytes-form r = rw (flag-low (r .steady), flag-low (r .permission))
+
+pub record-back : (r : Record) → recordIn (bytesOf r) ≡ r
+unfolding recordIn
+record-back r = rw (bytes-form r, flag-back (r .steady), flag-back (r .permission))
+
+flag-of : (x : ℕ) → leb x 1 ≡ true → flag (eqb x 1) ≡ x
+flag-of zero h = refl
+flag-of (suc zero) h = refl
+flag-of (suc (suc x)) h = absurd (omega (arith, leb-true (suc (suc x)) 1 h))
+
+all-seven : (bytes : List ℕ) → length bytes ≡ 7 → every 0 1 7 bytes ≡ bytes
+all-seven bytes h =
+    ext-getD 0 (every 0 1 7 bytes) bytes (every-length 0 1 7 bytes ∙ sym h)
+    (λ i l.
+    every-at 0 1 7 bytes i (rw (every-length 0 1 7 bytes) at l) ∙ ap (λ (k : ℕ). getD bytes k 0) (omega arith))
+
+-- .. and bytes of the form are those of the record that they are read as ..
+pub bytes-back : (bytes : List ℕ) → hasForm bytes ≡ true → bytesOf (recordIn bytes) ≡ bytes
+unfolding hasForm recordIn every
+bytes-back bytes h =
+    let low = and-right (eqb (length bytes) 7) _ h in
+    rw (
+      h,
+      flag-of (getD bytes 5 0) (and-left (leb (getD bytes 5 0) 1) _ low),
+      flag-of (getD bytes 6 0) (and-right (leb (getD bytes 5 0) 1) _ low),
+    )
+    (all-seven bytes (eqb-true (length bytes) 7 (and-left (eqb (length bytes) 7) _ h)))
+
+-- .. others are read as a record out of range.
+pub form-missing : (bytes : List ℕ) → hasForm bytes ≡ false → inRange (recordIn bytes) ≡ false
+unfolding recordIn figuresInRange
+form-missing bytes h = rw h
+
+-- A status is 0 exactly where something is given; document 01's numbers are 1 to 12.
+pub status-given : {A : Type 0} (x : Answer A) → ((n p : ℕ) → x ≡ refused n p → 0 < n)
+    → (statusOf x ≡ 0) ↔ ((a : A) × (x ≡ given a))
+status-given (refused n p) numbered = (
+  λ e. absurd (omega (arith, numbered n p refl)),
+  λ g. absurd (refused-given (g .1)),
+)
+status-given (given a) numbered = (λ e. (a, refl), λ g. refl)
+
+-- Of a refusal both the number and the place can be told from it.
+pub status-refused : {A : Type 0} (x : Answer A) (n p : ℕ) → n < 256 → x ≡ refused n p
+    → (statusOf x % 256 ≡ n) × (statusOf x / 256 ≡ p)
+status-refused x n p h e = rw e (omega arith, omega arith)
