@@ -22,6 +22,7 @@ pub mod LookUp
 pub mod Numbers
 pub mod Parts
 pub mod PrintedTables
+pub mod Points
 pub mod Range
 pub mod Readings
 pub mod Refusals

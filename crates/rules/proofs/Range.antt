@@ -1,15 +1,17 @@
--- A record in range stays in range: after a step, and after any history that is not refused; and what being in range
--- bounds.
+-- What being in range bounds, exactly, and records on both sides of each bound; a record in range stays in range, after
+-- a step and after any history that is not refused.
 -- Assumes nothing.
 use Prim.Native.Nat.{ℕ, zero, suc, _+_, _*_, _/_, _%_, _^_, _≤_, _<_}
 use mathlib.Core.Path.{_≡_, refl, sym, ap, _∙_}
 use mathlib.Core.Bool.{Bool, true, false, cond, _&&_, not, false≢true, and-eq-true-iff}
-use mathlib.Core.List.{List, [], _∷_}
+use mathlib.Core.List.{List, [], _∷_, _++_}
+use mathlib.Core.Logic.{_↔_}
 use native.Mathlib.Decide.{decLt}
 use native.Mathlib.Omega.{arith}
 use lib.Dec.{leb, ltb, eqb}
+use lib.ListN.{replicate}
 use lib.Count.{ones, ones-step, ones-cat}
-use borrow.Author.Tests.{leb-true, leb-false, ltb-true, eqb-true, le-leb, lt-ltb}
+use borrow.Author.Tests.{leb-true, leb-false, ltb-true, eqb-true, le-leb, lt-ltb, eq-eqb}
 use Rattle.rules.specs.Refusals.{Answer, refused, given, whileStopped, notStopped}
 use Rattle.rules.specs.Codes.{normal, tightened, reduced, stopped}
 use Rattle.rules.specs.Severity.{Lot, addThree, addTwo, scoreZero, notAccepted, accepted, Event, lot}
@@ -22,7 +24,8 @@ use Rattle.rules.specs.History.{afterFrom}
 use Rattle.rules.proofs.Answers.{given-one}
 use Rattle.rules.proofs.Append.{one-event}
 
--- The bounds of a record in range; s is its severity.
+-- What a record in range is, in plain inequalities; s is its severity. "every figure that its severity doesn't use is 0
+-- (score and window belong to normal, run and count to tightened)"
 pub record Within (s : ℕ) (r : Record) : Type 0 where
   pub severity-fits : s ≤ 3
   pub score-fits : r .score ≤ 30
@@ -30,6 +33,8 @@ pub record Within (s : ℕ) (r : Record) : Type 0 where
   pub count-fits : r .count ≤ 4
   pub window-fits : r .window < 32
   pub ones-fit : ones (r .window) ≤ 1
+  pub normal-alone : (s ≡ normal → ⊥) → (r .score ≡ 0) × (r .window ≡ 0)
+  pub tightened-alone : (s ≡ tightened → ⊥) → (r .run ≡ 0) × (r .count ≡ 0)
 
 both : (a b : Bool) → a && b ≡ true → (a ≡ true) × (b ≡ true)
 both a b h = and-eq-true-iff a b .0 h
@@ -37,6 +42,9 @@ both a b h = and-eq-true-iff a b .0 h
 -- a figure that the severity does not use is 0, and so is a window's number of ones
 zero-figures : (a b : ℕ) → eqb a 0 && eqb b 0 ≡ true → (a ≡ 0) × (b ≡ 0)
 zero-figures a b h = let w = both (eqb a 0) (eqb b 0) h in (eqb-true a 0 (w .0), eqb-true b 0 (w .1))
+
+zero-tests : (a b : ℕ) → (a ≡ 0) × (b ≡ 0) → eqb a 0 && eqb b 0 ≡ true
+zero-tests a b h = rw (eq-eqb a 0 (h .0), eq-eqb b 0 (h .1))
 
 no-ones : (w : ℕ) → w ≡ 0 → ones w ≤ 1
 unfolding ones
@@ -47,7 +55,16 @@ cleared s r l h =
     let w = both (noScoreOrWindow r) (noRunOrCount r) h in
     let a = zero-figures (r .score) (r .window) (w .0) in
     let b = zero-figures (r .run) (r .count) (w .1) in
-    omega (arith, no-ones (r .window) (a .1))
+    record {
+      severity-fits = l;
+      score-fits = omega arith;
+      run-fits = omega arith;
+      count-fits = omega arith;
+      window-fits = omega arith;
+      ones-fit = no-ones (r .window) (a .1);
+      normal-alone = λ _. a;
+      tightened-alone = λ _. b;
+    }
 
 pub within : (s : ℕ) (r : Record) → figuresInRange s r ≡ true → Within s r
 unfolding figuresInRange
@@ -56,16 +73,103 @@ within zero r h =
     let a = both (leb (r .score) 30) (ltb (r .window) 32 && leb (ones (r .window)) 1) (w .0) in
     let c = both (ltb (r .window) 32) (leb (ones (r .window)) 1) (a .1) in
     let b = zero-figures (r .run) (r .count) (w .1) in
-    omega
-    (arith, leb-true (r .score) 30 (a .0), ltb-true (r .window) 32 (c .0), leb-true (ones (r .window)) 1 (c .1))
+    record {
+      severity-fits = omega arith;
+      score-fits = leb-true (r .score) 30 (a .0);
+      run-fits = omega arith;
+      count-fits = omega arith;
+      window-fits = ltb-true (r .window) 32 (c .0);
+      ones-fit = leb-true (ones (r .window)) 1 (c .1);
+      normal-alone = λ n. absurd (n refl);
+      tightened-alone = λ _. b;
+    }
 within (suc zero) r h =
     let w = both (runAndCount r) (noScoreOrWindow r) h in
     let a = both (leb (r .run) 4) (leb (r .count) 4) (w .0) in
     let b = zero-figures (r .score) (r .window) (w .1) in
-    omega (arith, leb-true (r .run) 4 (a .0), leb-true (r .count) 4 (a .1), no-ones (r .window) (b .1))
+    record {
+      severity-fits = omega arith;
+      score-fits = omega arith;
+      run-fits = leb-true (r .run) 4 (a .0);
+      count-fits = leb-true (r .count) 4 (a .1);
+      window-fits = omega arith;
+      ones-fit = no-ones (r .window) (b .1);
+      normal-alone = λ _. b;
+      tightened-alone = λ n. absurd (n refl);
+    }
 within (suc (suc zero)) r h = cleared 2 r (omega arith) h
 within (suc (suc (suc zero))) r h = cleared 3 r (omega arith) h
 within (suc (suc (suc (suc s)))) r h = absurd (false≢true h)
+
+both-cleared : (r : Record) → (r .score ≡ 0) × (r .window ≡ 0) → (r .run ≡ 0) × (r .count ≡ 0)
+    → noScoreOrWindow r && noRunOrCount r ≡ true
+both-cleared r a b = and-eq-true-iff _ _ .1 (zero-tests (r .score) (r .window) a, zero-tests (r .run) (r .count) b)
+
+in-range : (s : ℕ) (r : Record) → Within s r → figuresInRange s r ≡ true
+unfolding figuresInRange
+in-range zero r w =
+    rw (le-leb (r .score) 30 (w .score-fits), lt-ltb (r .window) 32 (w .window-fits))
+    (rw (le-leb (ones (r .window)) 1 (w .ones-fit)) (zero-tests (r .run) (r .count) (w .tightened-alone (omega arith))))
+in-range (suc zero) r w =
+    rw (le-leb (r .run) 4 (w .run-fits), le-leb (r .count) 4 (w .count-fits))
+    (zero-tests (r .score) (r .window) (w .normal-alone (omega arith)))
+in-range (suc (suc zero)) r w = both-cleared r (w .normal-alone (omega arith)) (w .tightened-alone (omega arith))
+in-range (suc (suc (suc zero))) r w = both-cleared r (w .normal-alone (omega arith)) (w .tightened-alone (omega arith))
+in-range (suc (suc (suc (suc s)))) r w = absurd (omega (arith, w .severity-fits))
+
+-- A record passes the test of range exactly where it is within these bounds.
+pub in-range-exactly : (r : Record) → (inRange r ≡ true) ↔ Within (r .severity) r
+in-range-exactly r = (λ h. within (r .severity) r h, λ w. in-range (r .severity) r w)
+
+-- a record of this severity, score, window, run and count
+abbrev figures : ℕ → ℕ → ℕ → ℕ → ℕ → Bool
+figures severity score window run count =
+    inRange
+    (record {
+      severity = severity;
+      score = score;
+      run = run;
+      count = count;
+      window = window;
+      steady = false;
+      permission = false;
+    })
+
+-- Records on both sides of each bound: at normal, tightened, reduced and stopped, and a severity of 4.
+pub boundary : List Bool
+boundary =
+    figures 0 30 16 0 0
+    ∷ figures 0 31 0 0 0
+    ∷ figures 0 0 32 0 0
+    ∷ figures 0 0 3 0 0
+    ∷ figures 0 0 0 1 0
+    ∷ figures 0 0 0 0 1
+    ∷ figures 1 0 0 4 4
+    ∷ figures 1 0 0 5 0
+    ∷ figures 1 0 0 0 5
+    ∷ figures 1 1 0 0 0
+    ∷ figures 1 0 1 0 0
+    ∷ figures 2 0 0 0 0
+    ∷ figures 2 1 0 0 0
+    ∷ figures 2 0 1 0 0
+    ∷ figures 2 0 0 1 0
+    ∷ figures 2 0 0 0 1
+    ∷ figures 3 0 0 0 0
+    ∷ figures 3 1 0 0 0
+    ∷ figures 3 0 1 0 0
+    ∷ figures 3 0 0 1 0
+    ∷ figures 3 0 0 0 1
+    ∷ figures 4 0 0 0 0
+    ∷ []
+
+pub on-the-boundary : boundary
+    ≡ (true ∷ replicate 5 false)
+    ++ (true ∷ replicate 4 false)
+    ++ (true ∷ replicate 4 false)
+    ++ (true ∷ replicate 4 false)
+    ++ (false ∷ [])
+unfolding boundary figuresInRange ones
+on-the-boundary = refl
 
 -- the records that a step gives
 started-range : (s : ℕ) (st pe : Bool) → s ≤ 3 → inRange (started s st pe) ≡ true

@@ -1,11 +1,13 @@
--- A run of calls, refused calls dropped, is the history of the events that its calls stand for, and of their bytes.
+-- A run of calls: what each call records, and that the run, refused calls dropped, is the history of the events that
+-- its calls stand for, and of their bytes.
 -- Assumes nothing.
-use Prim.Native.Nat.{suc}
+use Prim.Native.Nat.{ℕ, suc}
 use mathlib.Core.Path.{_≡_, refl, sym, ap, _∙_}
 use mathlib.Core.Bool.{Bool, true, false, cond, not}
 use mathlib.Core.List.{List, [], _∷_, _++_, map}
 use native.Mathlib.Omega.{arith}
 use mathlib.Core.Logic.{_⊎_, inl, inr}
+use lib.IntN.{ℤ}
 use lib.ListN.{length}
 use Rattle.rules.specs.Refusals.{Answer, refused, given, andThen, unknownForm}
 use Rattle.rules.specs.Verdict.{Verdict, Judged}
@@ -14,7 +16,8 @@ use Rattle.rules.specs.Severity.{resubmitted, steadyIs, permissionIs, co
 use Rattle.rules.specs.Severity.{inRange}
 use Rattle.rules.specs.History.{Work, eventOf, eventIn, placed, afterFrom, after}
 use Rattle.rules.specs.Book.{Checked, sound, brokenAt, checkBook, onSound}
-use Rattle.rules.specs.Entries.{Offered, askedOn, eventFor, singleCounts, stagedCounts, closedWith, onRecord}
+use Rattle.rules.specs.Entries.{Asked, Closed, Offered, askedOn, eventFor, singleCounts, stagedCounts}
+use Rattle.rules.specs.Entries.{closedWith, onRecord}
 use Rattle.rules.specs.Entries.{judgeSingle, judgeStaged, judgeTotal, closeSingle, closeStaged, closeTotal}
 use Rattle.rules.specs.Entries.{next}
 use Rattle.rules.specs.Runs.{Call, single, staged, total, byte, sequential, variables, Entered, enters}
@@ -25,6 +28,72 @@ use Rattle.rules.proofs.Append.{and-one-event}
 use Rattle.rules.proofs.Range.{step-range}
 use Rattle.rules.proofs.Resubmitted.{is-resubmitted, resubmitted-step}
 use Rattle.rules.proofs.Bytes.{lot-byte, corrective-byte}
+
+-- A call that leaves the record and the events as they are.
+abbrev pub Idle : Work → List Call → Call → Type 0
+Idle w cs call = (ran w (call ∷ cs) ≡ ran w cs) × (eventsRan w (call ∷ cs) ≡ eventsRan w cs)
+
+-- A call and its answer: given, the next record and the event of what is given are recorded; refused, nothing is.
+pub record Records {A : Type 0} (w : Work) (cs : List Call) (call : Call) (answer : Answer A) (after : A → Record)
+    (event : A → Event) : Type 0 where
+  pub recorded : (a : A) → answer ≡ given a
+      → (ran w (call ∷ cs) ≡ after a) × (eventsRan w (call ∷ cs) ≡ event a ∷ eventsRan w cs)
+  pub dropped : (n k : ℕ) → answer ≡ refused n k → Idle w cs call
+
+-- A lot closed is recorded as it counts.
+abbrev pub ClosesLot : {P : Type 0} → Work → List Call → Call → Answer (Closed P) → Offered → (Judged P Verdict → Lot)
+    → Type 0
+ClosesLot w cs call answer o counts =
+    Records w cs call answer (λ c. c .recordAfter) (λ c. eventFor o (counts (c .judged)))
+
+module _ (w : Work) (cs : List Call) where
+  call-idle : (call : Call) → entered w (ran w cs) call ≡ nothing → Idle w cs call
+  unfolding ran eventsRan
+  call-idle call q = rw q (refl, refl)
+
+  call-entered : (call : Call) (e : Event) (t : Record) → entered w (ran w cs) call ≡ enters e t
+      → (ran w (call ∷ cs) ≡ t) × (eventsRan w (call ∷ cs) ≡ e ∷ eventsRan w cs)
+  unfolding ran eventsRan
+  call-entered call e t q = rw q (refl, refl)
+
+  call-closes : {P : Type 0} (call : Call) (answer : Answer (Closed P)) (o : Offered) (counts : Judged P Verdict → Lot)
+      → entered w (ran w cs) call ≡ enteredBy o counts answer → ClosesLot w cs call answer o counts
+  call-closes call answer o counts q = record {
+    recorded = λ c e. call-entered call _ (c .recordAfter) (q ∙ ap (enteredBy o counts) e);
+    dropped = λ n k e. call-idle call (q ∙ ap (enteredBy o counts) e);
+  }
+
+  pub single-closes : (o : Offered) (book sample : List ℕ)
+      → ClosesLot w cs (single o book sample) (closeSingle (ran w cs) o book sample) o (singleCounts (ran w cs) o)
+  unfolding entered
+  single-closes o book sample = call-closes (single o book sample) _ o (singleCounts (ran w cs) o) refl
+
+  pub staged-closes : (o : Offered) (book sample : List ℕ)
+      → ClosesLot w cs (staged o book sample) (closeStaged (ran w cs) o book sample) o (stagedCounts (ran w cs) o)
+  unfolding entered
+  staged-closes o book sample = call-closes (staged o book sample) _ o (stagedCounts (ran w cs) o) refl
+
+  pub total-closes : (o : Offered) (d : ℕ)
+      → ClosesLot w cs (total o d) (closeTotal (ran w cs) o d) o (singleCounts (ran w cs) o)
+  unfolding entered
+  total-closes o d = call-closes (total o d) _ o (singleCounts (ran w cs) o) refl
+
+  pub byte-records : (b : ℕ) → Records w cs (byte b) (next w (ran w cs) b) (λ t. t) (λ t. eventIn w b)
+  unfolding entered
+  byte-records b = record {
+    recorded = λ t e. call-entered (byte b) (eventIn w b) t (ap (enteredAs (eventIn w b)) e);
+    dropped = λ n k e. call-idle (byte b) (ap (enteredAs (eventIn w b)) e);
+  }
+
+  -- "Sequential and variables verdicts don't enter the record"
+  pub sequential-idle : (q : Asked) (book sample : List ℕ) → Idle w cs (sequential q book sample)
+  unfolding entered
+  sequential-idle q book sample = call-idle (sequential q book sample) refl
+
+  pub variables-idle : (upper : Bool) (q : Asked) (book : List ℕ) (limit : ℤ) (readings : List ℕ)
+      → Idle w cs (variables upper q book limit readings)
+  unfolding entered
+  variables-idle upper q book limit readings = call-idle (variables upper q book limit readings) refl
 
 -- What is entered is what the event makes of the record, and the event is one of these.
 abbrev Enters : (Event → Type 0) → Record → Entered → Type 0

@@ -1,5 +1,6 @@
--- Document 01, 'Slips that look harmless', of the severity record: histories at which a slip would end elsewhere; and
--- which refusal a history reports, at which place.
+-- Document 01, 'Slips that look harmless', of the severity record, and other edges of its switches: histories at
+-- which a
+-- slip would end elsewhere; and which refusal a history reports, at which place.
 -- Assumes nothing.
 use Prim.Native.Nat.{ℕ}
 use mathlib.Core.Path.{_≡_, refl}
@@ -36,6 +37,18 @@ computed =
     ∷ ends nearStopped
     ∷ ends (nearStopped ++ (3 ∷ []))
     ∷ ends (nearStopped ++ (replicate 5 0 ++ (3 ∷ 3 ∷ 3 ∷ [])))
+    -- "five accepted in a row gives normal"
+    ∷ ends (3 ∷ 3 ∷ replicate 4 0)
+    ∷ ends (3 ∷ 3 ∷ replicate 5 0)
+    -- "add 2", "score 0"
+    ∷ ends (5 ∷ 7 ∷ replicate 14 1)
+    ∷ ends (5 ∷ 7 ∷ replicate 15 1)
+    ∷ ends ((5 ∷ 7 ∷ replicate 9 0) ++ (2 ∷ 0 ∷ []))
+    -- "steady withdrawn or permission withdrawn gives normal", and each as last ordered
+    ∷ ends ((5 ∷ 7 ∷ replicate 10 0) ++ (6 ∷ []))
+    ∷ ends ((5 ∷ 7 ∷ replicate 10 0) ++ (8 ∷ []))
+    ∷ ends (5 ∷ 7 ∷ 6 ∷ 5 ∷ replicate 10 0)
+    ∷ ends (5 ∷ 7 ∷ 8 ∷ 7 ∷ replicate 10 0)
     -- "a history reports its first bad byte (1, 5 or 10, with its place counted from 0) before 11"
     ∷ answered (listed ours (0 ∷ 12 ∷ []) 0)
     ∷ answered (listed ours (nearStopped ++ (3 ∷ 0 ∷ [])) 0)
@@ -55,6 +68,15 @@ said =
     ∷ (1 ∷ [])
     ∷ (3 ∷ [])
     ∷ (1 ∷ [])
+    ∷ (1 ∷ [])
+    ∷ (0 ∷ [])
+    ∷ (0 ∷ [])
+    ∷ (2 ∷ [])
+    ∷ (0 ∷ [])
+    ∷ (0 ∷ [])
+    ∷ (0 ∷ [])
+    ∷ (2 ∷ [])
+    ∷ (2 ∷ [])
     ∷ (1 ∷ 1 ∷ [])
     ∷ (5 ∷ 7 ∷ [])
     ∷ (10 ∷ 0 ∷ [])

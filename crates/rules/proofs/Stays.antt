@@ -1,14 +1,14 @@
--- The stays that a history contains: the written reading's lots are the original lots since the present stay began,
--- and a tightened stay holds at most 25 original lots and at most five not accepted.
+-- The stays that a history contains: their lots are the history's original lots, the first is the written reading's
+-- present stay, and a tightened one holds at most 25 original lots and at most five not accepted.
 -- Assumes nothing.
 use Prim.Native.Nat.{ℕ, zero, suc, _+_, _*_, _≤_}
 use mathlib.Core.Path.{_≡_, refl, sym, ap, ap₂, _∙_}
 use mathlib.Core.Bool.{Bool, true, false, cond, _&&_, not}
-use mathlib.Core.List.{List, [], _∷_}
+use mathlib.Core.List.{List, [], _∷_, _++_}
 use mathlib.Core.Logic.{_⊎_, inl, inr}
 use native.Mathlib.Omega.{arith}
-use borrow.Author.Tests.{leb-true, leb-false, eq-eqb, ne-eqb}
-use lib.Dec.{leb}
+use borrow.Author.Tests.{leb-true, leb-false, eq-eqb, ne-eqb, eqb-true, eqb-false}
+use lib.Dec.{leb, eqb}
 use lib.ListN.{length, take}
 use Rattle.rules.specs.Codes.{normal, tightened, reduced, stopped}
 use Rattle.rules.specs.Severity.{Origin, Lot, accepted, Event, lot, resubmitted, steadyIs, permissionIs}
@@ -27,7 +27,7 @@ abbrev pub AtMost25 : Stay → Type 0
 AtMost25 y = y .severity ≡ tightened → (length (y .lots) ≤ 25) × (notAcceptedIn (y .lots) ≤ 5)
 
 -- what keeps a tightened stay so short: no five accepted in a row, no fifth not accepted
-abbrev Few : List Lot → Type 0
+abbrev pub Few : List Lot → Type 0
 Few ls = (runOf ls ≤ 4) × (notAcceptedIn ls ≤ 4) × (length ls ≤ 5 * notAcceptedIn ls + runOf ls)
 
 few-none : Few []
@@ -39,7 +39,7 @@ run-accepted : (l : Lot) (ls : List Lot) → accepted l ≡ true
 unfolding runOf notAcceptedIn
 run-accepted l ls e = rw e (refl, refl)
 
-run-not-accepted : (l : Lot) (ls : List Lot) → accepted l ≡ false
+pub run-not-accepted : (l : Lot) (ls : List Lot) → accepted l ≡ false
     → (runOf (l ∷ ls) ≡ 0) × (notAcceptedIn (l ∷ ls) ≡ suc (notAcceptedIn ls))
 unfolding runOf notAcceptedIn
 run-not-accepted l ls e = rw e (refl, refl)
@@ -55,6 +55,83 @@ few-bound (steadyIs b) ls h = omega arith
 few-bound (permissionIs b) ls h = omega arith
 few-bound corrective ls h = omega arith
 few-bound unknown ls h = omega arith
+
+-- the original lots of a history, newest first
+unfoldable pub originalLots : List Event → List Lot
+originalLots [] = []
+originalLots (lot o l ∷ es) = l ∷ originalLots es
+originalLots (resubmitted ∷ es) = originalLots es
+originalLots (steadyIs b ∷ es) = originalLots es
+originalLots (permissionIs b ∷ es) = originalLots es
+originalLots (corrective ∷ es) = originalLots es
+originalLots (unknown ∷ es) = originalLots es
+
+-- the lots of stays, joined in order
+unfoldable pub lotsOfAll : List Stay → List Lot
+lotsOfAll [] = []
+lotsOfAll (y ∷ ys) = y .lots ++ lotsOfAll ys
+
+-- the severity of the first stay
+abbrev pub FirstIs : ℕ → List Stay → Type 0
+FirstIs severity [] = ⊥
+FirstIs severity (y ∷ ys) = y .severity ≡ severity
+
+abbrev pub FirstIsNot : ℕ → List Stay → Type 0
+FirstIsNot severity [] = Unit {0}
+FirstIsNot severity (y ∷ ys) = severity ≡ y .severity → ⊥
+
+-- each stay and the one before it
+abbrev pub NeighboursDiffer : List Stay → Type 0
+NeighboursDiffer [] = Unit {0}
+NeighboursDiffer (y ∷ ys) = FirstIsNot (y .severity) ys × NeighboursDiffer ys
+
+lots-joined : (e : Event) (es : List Event) (ls ms : List Lot) → ls ++ ms ≡ originalLots es
+    → lotsWith e ls ++ ms ≡ originalLots (e ∷ es)
+unfolding originalLots
+lots-joined (lot o l) es ls ms h = ap (λ (ks : List Lot). l ∷ ks) h
+lots-joined resubmitted es ls ms h = h
+lots-joined (steadyIs b) es ls ms h = h
+lots-joined (permissionIs b) es ls ms h = h
+lots-joined corrective es ls ms h = h
+lots-joined unknown es ls ms h = h
+
+-- these stays are the whole of the history, the present one of this severity
+pub record Whole (severity : ℕ) (es : List Event) (ys : List Stay) : Type 0 where
+  pub all-lots : lotsOfAll ys ≡ originalLots es
+  pub neighbours : NeighboursDiffer ys
+  pub first-present : FirstIs severity ys
+
+whole-on : (e : Event) (es : List Event) (t : ℕ) (y : Stay) (ys : List Stay)
+    → lotsOfAll (y ∷ ys) ≡ originalLots es → NeighboursDiffer (y ∷ ys) → Whole t (e ∷ es) (staysBy e t (y ∷ ys))
+unfolding lotsOfAll
+whole-on e es t y ys q n = go (eqb t (y .severity)) refl
+  where
+    go : (d : Bool) → eqb t (y .severity) ≡ d
+        → Whole t (e ∷ es)
+        (cond d (stayOf (y .severity) (lotsWith e (y .lots)) ∷ ys)
+        (stayOf t [] ∷ stayOf (y .severity) (lotsWith e (y .lots)) ∷ ys))
+    go true m = record {
+      all-lots = lots-joined e es (y .lots) (lotsOfAll ys) q;
+      neighbours = n;
+      first-present = sym (eqb-true t (y .severity) m);
+    }
+    go false m = record {
+      all-lots = lots-joined e es (y .lots) (lotsOfAll ys) q;
+      neighbours = (eqb-false t (y .severity) m, n);
+      first-present = refl;
+    }
+
+-- The stays' lots are all the original lots of the history, newest first; neighbours differ in severity, and the first
+-- has the present one.
+pub stays-whole : (start : Bool) (es : List Event) → Whole (severityRead start es) es (staysIn start es)
+unfolding staysIn stayAfter lotsOfAll originalLots
+stays-whole start [] = record { all-lots = refl; neighbours = (tt, tt); first-present = refl }
+stays-whole start (e ∷ es) = go (staysIn start es) (stays-whole start es)
+  where
+    go : (ys : List Stay) → Whole (severityRead start es) es ys
+        → Whole (severityRead start (e ∷ es)) (e ∷ es) (staysBy e (severityRead start (e ∷ es)) ys)
+    go [] h = absurd (h .first-present)
+    go (y ∷ ys) h = whole-on e es (severityRead start (e ∷ es)) y ys (h .all-lots) (h .neighbours)
 
 -- What an event makes of a stay: the stay goes on with the lot that the event may bring, or a stay of another severity
 -- starts.
@@ -211,3 +288,12 @@ tightened-stays start es = go (stayAfter start es) (staysIn start es) (held star
     go : (z : Stay) (ys : List Stay) → Held z ys → Every AtMost25 ys
     go z [] h = tt
     go z (y ∷ ys) h = (λ n. few-bound resubmitted (y .lots) (h .3 n), h .4)
+
+-- So short is the present stay, if it is tightened.
+pub tightened-few : (start : Bool) (es : List Event) → severityRead start es ≡ tightened
+    → Few (stayAfter start es .lots)
+tightened-few start es s = go (stayAfter start es) (staysIn start es) (held start es) s
+  where
+    go : (z : Stay) (ys : List Stay) → Held z ys → z .severity ≡ 1 → Few (z .lots)
+    go z [] h q = absurd h
+    go z (y ∷ ys) h q = rw (← h .2 (omega arith)) (h .3 (omega arith))

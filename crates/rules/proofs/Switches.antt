@@ -1,21 +1,22 @@
--- Two switches of the written reading: stopped is left only by a corrective order, and what stands when reduced starts.
+-- The switches of the written reading: by what stopped, tightened and reduced are left, and what stands when reduced
+-- starts.
 -- Assumes nothing.
 use Prim.Native.Nat.{ℕ, zero, suc, _*_, _≤_}
-use mathlib.Core.Path.{_≡_, refl, ap, _∙_}
-use mathlib.Core.Bool.{Bool, true, false, cond, _&&_, not, and-eq-true-iff}
+use mathlib.Core.Path.{_≡_, refl, sym, ap, _∙_}
+use mathlib.Core.Bool.{Bool, true, false, cond, _&&_, not, and-eq-true-iff, true≢false}
 use mathlib.Core.List.{List, [], _∷_}
-use mathlib.Core.Logic.{_⊎_, inl, inr}
+use mathlib.Core.Logic.{_↔_, _⊎_, inl, inr}
 use native.Mathlib.Omega.{arith}
-use borrow.Author.Tests.{leb-true, ne-eqb}
+use borrow.Author.Tests.{leb-true, leb-false, ne-eqb}
 use lib.Dec.{leb}
 use lib.ListN.{length, take}
 use Rattle.rules.specs.Codes.{normal, tightened, reduced, stopped}
-use Rattle.rules.specs.Severity.{Lot, addThree, addTwo, scoreZero, notAccepted, accepted, Event, lot}
+use Rattle.rules.specs.Severity.{Origin, Lot, addThree, addTwo, scoreZero, notAccepted, accepted, Event, lot}
 use Rattle.rules.specs.Severity.{resubmitted, steadyIs, permissionIs, corrective, unknown, due}
 use Rattle.rules.specs.Reading.{steadyIn, permissionIn, notAcceptedIn, runOf, pointsOf, scoreOf, Stay, stayOf}
 use Rattle.rules.specs.Reading.{readSettled, readNormal, readTightened, readLot, readOrder, readEvent}
 use Rattle.rules.specs.Reading.{stayAfter, severityRead, lotsWith, staysIn}
-use Rattle.rules.proofs.Stays.{present-stay}
+use Rattle.rules.proofs.Stays.{Few, run-not-accepted, present-stay, tightened-few}
 
 stopped-event : (e : Event) (st pe : Bool) (s : ℕ) (ls : List Lot) → s ≡ stopped
     → (readEvent e st pe (stayOf s ls) .severity ≡ stopped) ⊎ (e ≡ corrective)
@@ -170,3 +171,148 @@ reduced-starts start e es n h =
           (p .1 ∙ ap (λ (s : ℕ). stayOf s (y .lots) ∷ p .0) (t .0));
       ten-accepted = last-accepted 10 (lotsWith e (y .lots)) (t .3);
     }
+
+run-last : (k : ℕ) (ls : List Lot) → LastAccepted k ls → k ≤ runOf ls
+unfolding runOf notAcceptedIn
+run-last zero ls h = omega arith
+run-last (suc k) [] h = absurd (omega arith)
+run-last (suc k) (l ∷ ls) h = go (accepted l) h (λ g. run-last k ls g)
+  where
+    go : (d : Bool)
+        → (suc (length (take k ls)) ≡ suc k)
+        × (cond d (notAcceptedIn (take k ls)) (suc (notAcceptedIn (take k ls))) ≡ 0)
+        → (LastAccepted k ls → k ≤ runOf ls) → suc k ≤ cond d (suc (runOf ls)) 0
+    go true h ih = omega (arith, ih (omega arith, h .1))
+    go false h ih = absurd (omega arith)
+
+-- An original lot, with what it and the lots of its stay are then.
+abbrev pub ByLot : (Lot → List Lot → Type 0) → Event → List Lot → Type 0
+ByLot P (lot o l) ls = P l (l ∷ ls)
+ByLot P resubmitted ls = ⊥
+ByLot P (steadyIs b) ls = ⊥
+ByLot P (permissionIs b) ls = ⊥
+ByLot P corrective ls = ⊥
+ByLot P unknown ls = ⊥
+
+-- How an event leaves tightened, where the stay's lots are ls and the severity is then s: for normal exactly by the
+-- fifth accepted in a row, for stopped exactly by the fifth not accepted.
+pub record LeavesTightened (e : Event) (ls : List Lot) (s : ℕ) : Type 0 where
+  pub to-normal : (s ≡ normal) ↔ ByLot (λ l lots. LastAccepted 5 lots) e ls
+  pub to-stopped : (s ≡ stopped) ↔ ByLot (λ l lots. (accepted l ≡ false) × (notAcceptedIn lots ≡ 5)) e ls
+  pub else-stays : (s ≡ normal → ⊥) → (s ≡ stopped → ⊥) → s ≡ tightened
+
+module _ (o : Origin) (l : Lot) (ls : List Lot) (few : Few ls) where
+  lot-leaves : LeavesTightened (lot o l) ls (readTightened l ls .severity)
+  lot-leaves = go (accepted l) refl
+    where
+      by-accepted : accepted l ≡ true → (d : Bool) → leb 5 (runOf (l ∷ ls)) ≡ d
+          → LeavesTightened (lot o l) ls (cond d (stayOf normal []) (stayOf tightened (l ∷ ls)) .severity)
+      by-accepted a true e = record {
+        to-normal = (λ _. last-accepted 5 (l ∷ ls) (leb-true 5 (runOf (l ∷ ls)) e), λ _. refl);
+        to-stopped = (λ q. absurd (omega arith), λ h. absurd (true≢false (sym a ∙ h .0)));
+        else-stays = λ f g. absurd (f refl);
+      }
+      by-accepted a false e = record {
+        to-normal = (
+          λ q. absurd (omega arith),
+          λ h. absurd (omega (arith, run-last 5 (l ∷ ls) h, leb-false 5 (runOf (l ∷ ls)) e)),
+        );
+        to-stopped = (λ q. absurd (omega arith), λ h. absurd (true≢false (sym a ∙ h .0)));
+        else-stays = λ f g. refl;
+      }
+
+      by-not-accepted : accepted l ≡ false → (d : Bool) → leb 5 (notAcceptedIn (l ∷ ls)) ≡ d
+          → LeavesTightened (lot o l) ls (cond d (stayOf stopped []) (stayOf tightened (l ∷ ls)) .severity)
+      by-not-accepted a true e = record {
+        to-normal = (
+          λ q. absurd (omega arith),
+          λ h. absurd (omega (arith, run-last 5 (l ∷ ls) h, run-not-accepted l ls a)),
+        );
+        to-stopped = (
+          λ _. (a, omega (arith, leb-true 5 (notAcceptedIn (l ∷ ls)) e, run-not-accepted l ls a, few)),
+          λ _. refl,
+        );
+        else-stays = λ f g. absurd (g refl);
+      }
+      by-not-accepted a false e = record {
+        to-normal = (
+          λ q. absurd (omega arith),
+          λ h. absurd (omega (arith, run-last 5 (l ∷ ls) h, run-not-accepted l ls a)),
+        );
+        to-stopped = (
+          λ q. absurd (omega arith),
+          λ h. absurd (omega (arith, leb-false 5 (notAcceptedIn (l ∷ ls)) e, h .1)),
+        );
+        else-stays = λ f g. refl;
+      }
+
+      go : (d : Bool) → accepted l ≡ d
+          → LeavesTightened (lot o l) ls
+          (cond d (cond (leb 5 (runOf (l ∷ ls))) (stayOf normal []) (stayOf tightened (l ∷ ls)))
+          (cond (leb 5 (notAcceptedIn (l ∷ ls))) (stayOf stopped []) (stayOf tightened (l ∷ ls)))
+          .severity)
+      go true a = by-accepted a (leb 5 (runOf (l ∷ ls))) refl
+      go false a = by-not-accepted a (leb 5 (notAcceptedIn (l ∷ ls))) refl
+
+no-lot-leaves : (e : Event) (ls : List Lot) → ((P : Lot → List Lot → Type 0) → ByLot P e ls → ⊥)
+    → LeavesTightened e ls tightened
+no-lot-leaves e ls none = record {
+  to-normal = (λ q. absurd (omega arith), λ h. absurd (none _ h));
+  to-stopped = (λ q. absurd (omega arith), λ h. absurd (none _ h));
+  else-stays = λ f g. refl;
+}
+
+tightened-event : (e : Event) (st pe : Bool) (s : ℕ) (ls : List Lot) → s ≡ tightened → Few ls
+    → LeavesTightened e ls (readEvent e st pe (stayOf s ls) .severity)
+unfolding readEvent readLot readOrder
+tightened-event (lot o l) st pe s ls h few = rw h (lot-leaves o l ls few)
+tightened-event resubmitted st pe s ls h few = rw h (no-lot-leaves resubmitted ls (λ P x. x))
+tightened-event (steadyIs b) st pe s ls h few = rw h (no-lot-leaves (steadyIs b) ls (λ P x. x))
+tightened-event (permissionIs b) st pe s ls h few = rw h (no-lot-leaves (permissionIs b) ls (λ P x. x))
+tightened-event corrective st pe s ls h few = rw h (no-lot-leaves corrective ls (λ P x. x))
+tightened-event unknown st pe s ls h few = rw h (no-lot-leaves unknown ls (λ P x. x))
+
+pub tightened-left : (start : Bool) (e : Event) (es : List Event) → severityRead start es ≡ tightened
+    → LeavesTightened e (stayAfter start es .lots) (severityRead start (e ∷ es))
+unfolding stayAfter
+tightened-left start e es h =
+    tightened-event e (steadyIn (e ∷ es)) (permissionIn start (e ∷ es)) (severityRead start es)
+    (stayAfter start es .lots) h (tightened-few start es h)
+
+-- "a lot not accepted, steady withdrawn or permission withdrawn"
+abbrev pub EndsReduced : Event → Type 0
+EndsReduced (lot o l) = accepted l ≡ false
+EndsReduced resubmitted = ⊥
+EndsReduced (steadyIs b) = b ≡ false
+EndsReduced (permissionIs b) = b ≡ false
+EndsReduced corrective = ⊥
+EndsReduced unknown = ⊥
+
+-- How an event leaves reduced, where the severity is then s: for normal, exactly by these.
+abbrev pub LeavesReduced : Type 0 → ℕ → Type 0
+LeavesReduced Ends s = ((s ≡ normal) ↔ Ends) × ((s ≡ normal → ⊥) → s ≡ reduced)
+
+reduced-unless : (b : Bool) (ls : List Lot)
+    → LeavesReduced (b ≡ false) (cond b (stayOf reduced ls) (stayOf normal []) .severity)
+reduced-unless true ls = ((λ q. absurd (omega arith), λ h. absurd (true≢false h)), λ f. refl)
+reduced-unless false ls = ((λ q. refl, λ h. refl), λ f. absurd (f refl))
+
+reduced-kept : LeavesReduced ⊥ reduced
+reduced-kept = ((λ q. absurd (omega arith), λ h. absurd h), λ f. refl)
+
+reduced-event : (e : Event) (st pe : Bool) (s : ℕ) (ls : List Lot) → s ≡ reduced
+    → LeavesReduced (EndsReduced e) (readEvent e st pe (stayOf s ls) .severity)
+unfolding readEvent readLot readOrder
+reduced-event (lot o l) st pe s ls h = rw h (reduced-unless (accepted l) (l ∷ ls))
+reduced-event resubmitted st pe s ls h = rw h reduced-kept
+reduced-event (steadyIs b) st pe s ls h = rw h (reduced-unless b ls)
+reduced-event (permissionIs b) st pe s ls h = rw h (reduced-unless b ls)
+reduced-event corrective st pe s ls h = rw h reduced-kept
+reduced-event unknown st pe s ls h = rw h reduced-kept
+
+pub reduced-left : (start : Bool) (e : Event) (es : List Event) → severityRead start es ≡ reduced
+    → LeavesReduced (EndsReduced e) (severityRead start (e ∷ es))
+unfolding stayAfter
+reduced-left start e es h =
+    reduced-event e (steadyIn (e ∷ es)) (permissionIn start (e ∷ es)) (severityRead start es)
+    (stayAfter start es .lots) h

@@ -7,23 +7,28 @@ use mathlib.Core.Path.{_≡_, sym, ap, _∙_}
 use mathlib.Core.Bool.{Bool, true, not}
 use mathlib.Core.List.{List, [], _∷_, _++_, map, reverse}
 use mathlib.Core.Logic.{_⊎_, inl, inr}
+use lib.IntN.{ℤ}
 use lib.ListN.{length}
 use Rattle.rules.specs.Refusals.{given}
-use Rattle.rules.specs.Codes.{reduced, stopped}
+use Rattle.rules.specs.Codes.{tightened, reduced, stopped}
 use Rattle.rules.specs.Severity.{Event, resubmitted, corrective, Record, fresh, step, inRange}
-use Rattle.rules.specs.Reading.{severityRead, recordRead, staysIn, isResubmitted, withoutResubmitted}
-use Rattle.rules.specs.Reading.{severitiesAt}
+use Rattle.rules.specs.Reading.{stayAfter, severityRead, recordRead, staysIn, isResubmitted}
+use Rattle.rules.specs.Reading.{withoutResubmitted, severitiesAt}
 use Rattle.rules.specs.History.{Work, eventOf, eventIn, afterFrom, after, past, afterHistory, withoutFours}
-use Rattle.rules.specs.Runs.{Call, byte, entered, isResubmission, withoutResubmissions, recordBy, ran}
-use Rattle.rules.specs.Runs.{eventsRan, bytesRan}
+use Rattle.rules.specs.Entries.{Asked, Offered, singleCounts, stagedCounts, closeSingle, closeStaged}
+use Rattle.rules.specs.Entries.{closeTotal, next}
+use Rattle.rules.specs.Runs.{Call, single, staged, total, byte, sequential, variables, entered}
+use Rattle.rules.specs.Runs.{isResubmission, withoutResubmissions, recordBy, ran, eventsRan, bytesRan}
 use Rattle.rules.proofs.Range.{fresh-range, step-range, after-range}
 use Rattle.rules.proofs.Agreement.{agree, severity-agrees}
-use Rattle.rules.proofs.Stays.{Every, AtMost25, tightened-stays}
-use Rattle.rules.proofs.Switches.{stopped-left, ReducedStarts, reduced-starts}
+use Rattle.rules.proofs.Stays.{Every, AtMost25, tightened-stays, Whole, stays-whole}
+use Rattle.rules.proofs.Switches.{stopped-left, LeavesTightened, tightened-left, EndsReduced, LeavesReduced}
+use Rattle.rules.proofs.Switches.{reduced-left, ReducedStarts, reduced-starts}
 use Rattle.rules.proofs.Resubmitted.{left-severities, without-resubmitted, resubmitted-in, resubmitted-reads}
 use Rattle.rules.proofs.Bytes.{corrective-byte, past-more, past-whole, past-append, past-put-in, past-without}
 use Rattle.rules.proofs.Runs.{ran-agrees, ran-agrees-bytes, ran-resubmitted, ran-without, OneCall, one-call}
-use Rattle.rules.proofs.Runs.{call-range}
+use Rattle.rules.proofs.Runs.{call-range, Idle, Records, ClosesLot, single-closes, staged-closes}
+use Rattle.rules.proofs.Runs.{total-closes, byte-records, sequential-idle, variables-idle}
 
 -- 1. The record folded over any history not refused has the severity of the written reading, and all its figures.
 module _ (start : Bool) (es : List Event) (r : Record) (q : after start es ≡ given r) where
@@ -37,6 +42,31 @@ pub bytes-record : (w : Work) (h : List ℕ) (r : Record) → afterHistory w h �
     → r ≡ recordRead (w .permission) (reverse (map (eventIn w) h))
 bytes-record w h r q =
     agree (w .permission) (past w h (length h)) r q ∙ ap (recordRead (w .permission)) (past-whole w h)
+
+-- What a run records: each call that is given, its record and its event; a refused call, a sequential and a variables
+-- verdict, nothing.
+module _ (w : Work) (cs : List Call) where
+  pub run-closes-single : (o : Offered) (book sample : List ℕ)
+      → ClosesLot w cs (single o book sample) (closeSingle (ran w cs) o book sample) o (singleCounts (ran w cs) o)
+  run-closes-single o book sample = single-closes w cs o book sample
+
+  pub run-closes-staged : (o : Offered) (book sample : List ℕ)
+      → ClosesLot w cs (staged o book sample) (closeStaged (ran w cs) o book sample) o (stagedCounts (ran w cs) o)
+  run-closes-staged o book sample = staged-closes w cs o book sample
+
+  pub run-closes-total : (o : Offered) (d : ℕ)
+      → ClosesLot w cs (total o d) (closeTotal (ran w cs) o d) o (singleCounts (ran w cs) o)
+  run-closes-total o d = total-closes w cs o d
+
+  pub run-takes-byte : (b : ℕ) → Records w cs (byte b) (next w (ran w cs) b) (λ t. t) (λ t. eventIn w b)
+  run-takes-byte b = byte-records w cs b
+
+  pub run-drops-sequential : (q : Asked) (book sample : List ℕ) → Idle w cs (sequential q book sample)
+  run-drops-sequential q book sample = sequential-idle w cs q book sample
+
+  pub run-drops-variables : (upper : Bool) (q : Asked) (book : List ℕ) (limit : ℤ) (readings : List ℕ)
+      → Idle w cs (variables upper q book limit readings)
+  run-drops-variables upper q book limit readings = variables-idle w cs upper q book limit readings
 
 module _ (w : Work) (cs : List Call) where
   pub run-severity : ran w cs .severity ≡ severityRead (w .permission) (eventsRan w cs)
@@ -55,6 +85,11 @@ history-tightened start es = tightened-stays start es
 
 pub run-tightened : (w : Work) (cs : List Call) → Every AtMost25 (staysIn (w .permission) (eventsRan w cs))
 run-tightened w cs = tightened-stays (w .permission) (eventsRan w cs)
+
+-- The stays are the whole history: their lots are its original lots, newest first, neighbours differ in severity, and
+-- the first has the written reading's.
+pub history-stays : (start : Bool) (es : List Event) → Whole (severityRead start es) es (staysIn start es)
+history-stays start es = stays-whole start es
 
 -- 3. Stopped is left only by a corrective order.
 pub history-stopped : (start : Bool) (e : Event) (es : List Event) → severityRead start es ≡ stopped
@@ -91,6 +126,17 @@ run-stopped w c cs h = go (one-call w c cs)
     go (inr x) =
         left (x .0) (x .1) (x .2)
         (stopped-left (w .permission) (x .0) (eventsRan w cs) (sym (run-severity w cs) ∙ h))
+
+-- Tightened is left for normal exactly by the fifth accepted in a row of that stay, for stopped exactly by its fifth
+-- not
+-- accepted; reduced exactly by a lot not accepted or an order that withdraws, for normal.
+pub history-leaves-tightened : (start : Bool) (e : Event) (es : List Event) → severityRead start es ≡ tightened
+    → LeavesTightened e (stayAfter start es .lots) (severityRead start (e ∷ es))
+history-leaves-tightened start e es h = tightened-left start e es h
+
+pub history-leaves-reduced : (start : Bool) (e : Event) (es : List Event) → severityRead start es ≡ reduced
+    → LeavesReduced (EndsReduced e) (severityRead start (e ∷ es))
+history-leaves-reduced start e es h = reduced-left start e es h
 
 -- 4. When reduced starts, it was normal, steady and permission stand, and the last ten original lots of that normal
 -- stay were all accepted.

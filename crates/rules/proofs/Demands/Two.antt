@@ -1,10 +1,8 @@
 -- Demand 2: for each entry, exactly when it is refused and exactly when it is given. An entry that takes a book
--- reports 12
--- with its byte first, and of a sound book, as every other entry, the lowest number whose row holds
--- (`refused-exactly`),
--- and is given exactly where no row holds (`given-exactly`): nothing else is refused.
+-- reports 12 with its byte first, and of a sound book, as every other entry, the lowest number whose row holds
+-- (`refused-exactly`), and is given exactly where no row holds (`given-exactly`): nothing else is refused.
 -- Assumes nothing.
-use Prim.Native.Nat.{ℕ, _/_, _≤_, _<_}
+use Prim.Native.Nat.{ℕ, suc, _/_, _≤_, _<_}
 use mathlib.Core.Path.{_≡_, refl, sym, ap, subst, _∙_}
 use mathlib.Core.Logic.{_↔_, _⊎_, inl, inr}
 use mathlib.Core.Bool.{Bool, true, false, cond, _&&_, not, false≢true}
@@ -15,7 +13,7 @@ use borrow.Author.Tests.{ltb-true, ltb-false, lt-ltb, le-ltb, leb-true, le-leb, 
 use borrow.Author.Tests.{ne-eqb, not-true, not-false}
 use lib.Dec.{leb, ltb, eqb}
 use lib.IntN.{ℤ}
-use lib.ListN.{length}
+use lib.ListN.{length, getD}
 use Rattle.rules.specs.Refusals.{Answer, refused, given, _gives_, firstOf, andThen, illegalItem, bufferShort}
 use Rattle.rules.specs.Refusals.{noPlan, noSuchColumn, unknownForm}
 use Rattle.rules.specs.Codes.{reduced, countsItems, letterOf, tableOneLetter}
@@ -34,8 +32,9 @@ use Rattle.rules.specs.Entries.{judgeVariables, totalOn, judgeTotal, nex
 use Rattle.rules.specs.Entries.{singleCounts, stagedCounts, closeSingle, closeStaged, closeTotal}
 use Rattle.rules.specs.Severity.{lot, Record, fresh, step, inRange}
 use Rattle.rules.specs.Variables.{VariablesPlan, Gauged, allInGauge, readingsOf, judgeReadings, sumZ, squaresZ}
-use Rattle.rules.specs.History.{Work, eventIn, afterHistory, listed}
-use Rattle.rules.proofs.Histories.{from-refused}
+use Rattle.rules.specs.Reading.{severityRead}
+use Rattle.rules.specs.History.{Work, eventIn, past, afterHistory, listed, leftIn}
+use Rattle.rules.proofs.Histories.{from-refused, written-length, written-at, written-past}
 use Rattle.rules.specs.Screen.{Shown, screen, shownOf}
 use Rattle.rules.proofs.Bounded.{by-le}
 use Rattle.rules.proofs.Bools.{and-left, and-right}
@@ -645,3 +644,26 @@ module _ (w : Work) (h : List ℕ) where
             → listed w h room ≡ refused n k
         back (inl e) = rw e
         back (inr e) = rw (e .0 .1, lt-ltb room (length h) (e .1), e .2, e .3)
+
+  -- What the lent buffer then holds: given, the severity after each byte, and the rest as it was.
+  module _ (out : List ℕ) where
+    pub record BufferListed (left : List ℕ) : Type 0 where
+      pub same-length : length left ≡ length out
+      pub severities : (k : ℕ) → k < length h → getD left k 0 ≡ severityRead (w .permission) (past w h (suc k))
+      pub rest : (k : ℕ) → length h ≤ k → getD left k 0 ≡ getD out k 0
+
+    pub listed-buffer : (m : ℕ) → listed w h (length out) ≡ given m
+        → BufferListed (leftIn (listed w h (length out)) w h out)
+    listed-buffer m g =
+        let p = listed-given (length out) m .0 g in
+        subst (λ (a : Answer ℕ). BufferListed (leftIn a w h out)) (ap given (p .2) ∙ sym g)
+        record {
+          same-length = written-length w h out (length h);
+          severities = λ k l. written-at w h out (length h) k (p .1) l;
+          rest = λ k l. written-past w h out (length h) k l;
+        }
+
+    -- "A refusal .. writes nothing"
+    pub refused-buffer : (n k : ℕ) → listed w h (length out) ≡ refused n k
+        → leftIn (listed w h (length out)) w h out ≡ out
+    refused-buffer n k e = rw e

@@ -1,0 +1,123 @@
+-- How a closed lot counts: its points at normal, not accepted at every severity, and that the record takes an original
+-- lot as it counts.
+-- Assumes nothing.
+use Prim.Native.Nat.{ℕ, _≤_, _<_}
+use mathlib.Core.Path.{_≡_, refl, sym, ap, _∙_}
+use mathlib.Core.Bool.{Bool, true, false, cond}
+use mathlib.Core.List.{List, [], _∷_}
+use native.Mathlib.Omega.{arith}
+use borrow.Author.Tests.{le-leb, lt-leb, ne-eqb}
+use Rattle.rules.specs.Refusals.{Answer, refused, given}
+use Rattle.rules.specs.Codes.{normal, letterOf, rowOf, rowFrom}
+use Rattle.rules.specs.Numbers.{numbersOf}
+use Rattle.rules.specs.Verdict.{Verdict, Judged}
+use Rattle.rules.specs.Single.{Plan, tablePlan, landing, boxAt, tighterAc}
+use Rattle.rules.specs.Staged.{StagedPlan, stagesFrom, totalSize, stageDecides, takeItems, stagedFrom}
+use Rattle.rules.specs.Staged.{judgeStages}
+use Rattle.rules.specs.Severity.{Lot, addThree, addTwo, scoreZero, notAccepted, sampled, lot, resubmitted}
+use Rattle.rules.specs.Severity.{Record, onNormal, onLot, step, figuresInRange}
+use Rattle.rules.specs.Book.{checkBook, checkedAs, sections, section, entries, entry, shift, thenFrom, keyFalls}
+use Rattle.rules.specs.Book.{rises, numbersFrom, right, stagedRule, stagedNumber, acKeeps, reKeeps, sameKey}
+use Rattle.rules.specs.Book.{seek, seekIn, lookUp, every}
+use Rattle.rules.specs.Entries.{Closed, Offered, singleCounts, stagedCounts, plainPlan, stagedPlan, judgeTotal}
+use Rattle.rules.specs.Entries.{judgeStaged, closeTotal, closeStaged}
+use Rattle.rules.proofs.EntryLaws.{Closes}
+
+-- "Ac 2 or more: add 3 if the total is also within the Ac one column tighter at the letter that gives the size, else
+-- score 0. Ac 0 or 1: add 2": the letter and the Ac are the plan's.
+pub record SinglePoints (o : Offered) (j : Judged Plan Verdict) (l : Lot) : Type 0 where
+  pub low-ac : j .plan .ac ≤ 1 → l ≡ addTwo
+  pub within-tighter : 2 ≤ j .plan .ac → j .verdict .total ≤ tighterAc (j .plan .letter) (o .column) → l ≡ addThree
+  pub beyond-tighter : 2 ≤ j .plan .ac → tighterAc (j .plan .letter) (o .column) < j .verdict .total → l ≡ scoreZero
+
+-- "Staged: add 3 if accepted at the first stage, else score 0."
+pub record StagedPoints (j : Judged StagedPlan Verdict) (l : Lot) : Type 0 where
+  pub first-stage : j .verdict .stage ≡ 1 → l ≡ addThree
+  pub later-stage : (j .verdict .stage ≡ 1 → ⊥) → l ≡ scoreZero
+
+module _ (r : Record) (o : Offered) where
+  pub single-not-accepted : (j : Judged Plan Verdict) → j .verdict .accepted ≡ false → singleCounts r o j ≡ notAccepted
+  single-not-accepted j a = rw a
+
+  pub staged-not-accepted : (j : Judged StagedPlan Verdict) → j .verdict .accepted ≡ false
+      → stagedCounts r o j ≡ notAccepted
+  staged-not-accepted j a = rw a
+
+  module _ (n : r .severity ≡ normal) where
+    pub single-points : (j : Judged Plan Verdict) → j .verdict .accepted ≡ true → SinglePoints o j (singleCounts r o j)
+    single-points j a = rw (n, a) record {
+      low-ac = λ h. rw (lt-leb 2 (j .plan .ac) (omega arith));
+      within-tighter = λ h k. rw (le-leb 2 (j .plan .ac) h, le-leb (j .verdict .total) _ k);
+      beyond-tighter = λ h k. rw (le-leb 2 (j .plan .ac) h, lt-leb (j .verdict .total) _ k);
+    }
+
+    pub staged-points : (j : Judged StagedPlan Verdict) → j .verdict .accepted ≡ true
+        → StagedPoints j (stagedCounts r o j)
+    staged-points j a = rw (n, a) record {
+      first-stage = λ h. rw h;
+      later-stage = λ h. rw (ne-eqb (j .verdict .stage) 1 h);
+    }
+
+  -- An original lot that is closed is the record's next event, as it counts.
+  pub original-lot : {P : Type 0} (judged : Answer (Judged P Verdict)) (counts : Judged P Verdict → Lot) (c : Closed P)
+      → o .again ≡ false → Closes r o judged counts c
+      → step r (lot sampled (counts (c .judged))) ≡ given (c .recordAfter)
+  original-lot judged counts c a k =
+      ap (λ (b : Bool). step r (cond b resubmitted (lot sampled (counts (c .judged))))) (sym a) ∙ k .stepped
+
+-- severity, score and window after an original lot at normal, score 5; a refusal is its number
+fromFive : Record
+fromFive = onNormal 5 0 false false
+
+offered : ℕ → ℕ → ℕ → Offered
+offered size level column = record { again = false; size = size; level = level; column = column }
+
+closedAs : {P : Type 0} → Answer (Closed P) → List ℕ
+closedAs (refused n p) = n ∷ []
+closedAs (given c) = c .recordAfter .severity ∷ c .recordAfter .score ∷ c .recordAfter .window ∷ []
+
+bytesOf : List ℕ → List ℕ
+bytesOf [] = []
+bytesOf (x ∷ xs) = x ∷ 0 ∷ bytesOf xs
+
+-- one staged entry: normal, B, 1.0, two stages of 2 with (0,2)(1,2)
+twoStages : List ℕ
+twoStages = bytesOf (0 ∷ 1 ∷ 0 ∷ 1 ∷ 10 ∷ 2 ∷ 2 ∷ 2 ∷ 0 ∷ 2 ∷ 1 ∷ 2 ∷ 0 ∷ 0 ∷ [])
+
+pub computed : List (List ℕ)
+computed =
+    -- Ac 0; Ac 1, at both totals
+    closedAs (closeTotal fromFive (offered 10 5 5) 0)
+    ∷ closedAs (closeTotal fromFive (offered 51 5 13) 0)
+    ∷ closedAs (closeTotal fromFive (offered 51 5 13) 1)
+    -- an arrow goes from F to E: Ac 21, one column tighter 14 at E and 21 at F
+    ∷ closedAs (closeTotal fromFive (offered 150 5 20) 14)
+    ∷ closedAs (closeTotal fromFive (offered 150 5 20) 15)
+    ∷ closedAs (closeTotal fromFive (offered 150 5 20) 22)
+    -- accepted at the first stage, at the second; not accepted
+    ∷ closedAs (closeStaged fromFive (offered 8 6 10) twoStages (bytesOf (0 ∷ 0 ∷ [])))
+    ∷ closedAs (closeStaged fromFive (offered 8 6 10) twoStages (bytesOf (1 ∷ 0 ∷ 0 ∷ 0 ∷ [])))
+    ∷ closedAs (closeStaged fromFive (offered 8 6 10) twoStages (bytesOf (1 ∷ 1 ∷ [])))
+    ∷ []
+
+pub said : List (List ℕ)
+said =
+    (0 ∷ 7 ∷ 0 ∷ [])
+    ∷ (0 ∷ 7 ∷ 0 ∷ [])
+    ∷ (0 ∷ 7 ∷ 0 ∷ [])
+    ∷ (0 ∷ 8 ∷ 0 ∷ [])
+    ∷ (0 ∷ 0 ∷ 0 ∷ [])
+    ∷ (0 ∷ 0 ∷ 1 ∷ [])
+    ∷ (0 ∷ 8 ∷ 0 ∷ [])
+    ∷ (0 ∷ 0 ∷ 0 ∷ [])
+    ∷ (0 ∷ 0 ∷ 1 ∷ [])
+    ∷ []
+
+-- Lots closed at each edge of the points.
+pub closed-points : computed ≡ said
+unfolding computed said fromFive offered closedAs bytesOf twoStages closeTotal closeStaged judgeTotal judgeStaged
+    plainPlan tablePlan landing boxAt tighterAc letterOf rowOf rowFrom stagedPlan checkBook numbersOf checkedAs
+    sections section entries entry shift thenFrom keyFalls rises numbersFrom right stagedRule stagedNumber acKeeps
+    reKeeps sameKey seek seekIn lookUp every totalSize judgeStages stagedFrom stagesFrom stageDecides takeItems step
+    onLot figuresInRange lib.Count.ones
+closed-points = refl
