@@ -1,4 +1,4 @@
--- The mission's demands, each sentence a named theorem.
+-- Demands 2 and 3, each sentence a named theorem.
 -- Assumes nothing.
 pub mod Three
 pub mod Two

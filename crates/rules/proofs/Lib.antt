@@ -21,8 +21,8 @@ pub mod Landing
 pub mod LookUp
 pub mod Numbers
 pub mod Parts
-pub mod PrintedTables
 pub mod Points
+pub mod PrintedTables
 pub mod Range
 pub mod Readings
 pub mod Refusals

@@ -1,6 +1,6 @@
 -- Resubmitted lots change nothing: a history that is not refused is not refused without them, and has the same
 -- severities at the events that are left; and one put in where the severity is not stopped refuses nothing and changes
--- no severity of the whole rest.
+-- no severity of the rest.
 -- Assumes nothing.
 use Prim.Native.Nat.{_≤_}
 use mathlib.Core.Path.{_≡_, refl, sym, ap, _∙_}

@@ -1,6 +1,5 @@
 -- Document 01, 'Slips that look harmless', of the severity record, and other edges of its switches: histories at
--- which a
--- slip would end elsewhere; and which refusal a history reports, at which place.
+-- which a slip would end elsewhere; and which refusal a history reports, at which place.
 -- Assumes nothing.
 use Prim.Native.Nat.{ℕ}
 use mathlib.Core.Path.{_≡_, refl}

@@ -1,5 +1,6 @@
--- The stays that a history contains: their lots are the history's original lots, the first is the written reading's
--- present stay, and a tightened one holds at most 25 original lots and at most five not accepted.
+-- The stays that a history contains: their lots are the history's original lots; the first has the written reading's
+-- severity, and unless it is stopped its lots; a tightened one holds at most 25 original lots and at most five not
+-- accepted.
 -- Assumes nothing.
 use Prim.Native.Nat.{ℕ, zero, suc, _+_, _*_, _≤_}
 use mathlib.Core.Path.{_≡_, refl, sym, ap, ap₂, _∙_}

@@ -1,6 +1,7 @@
--- Demand 3, each sentence a theorem, of histories and of runs of calls. A history is its events, newest first; those
--- of a history of bytes are `past w h (length h)`, the bytes' events turned round (`past-whole`). A run starts from a
--- fresh record, and refused calls are dropped. For any permission at the start, and any work.
+-- Demand 3, each sentence a theorem, of histories and of runs of calls; what a run records; and by what tightened and
+-- reduced are left. A history is its events, newest first; those of a history of bytes are `past w h (length h)`, the
+-- bytes' events turned round (`past-whole`). A run starts from a fresh record, and refused calls are dropped. For any
+-- permission at the start, and any work.
 -- Assumes nothing.
 use Prim.Native.Nat.{ℕ}
 use mathlib.Core.Path.{_≡_, sym, ap, _∙_}

@@ -1,6 +1,5 @@
 -- "A typed book supplies only the plans that document 01's tables don't hold": but for reduced, any two sound books
--- give
--- the same single plan, verdict and next record, those of a bench without a book.
+-- give the same single plan, verdict and next record, those of a bench without a book.
 -- Assumes nothing.
 use Prim.Native.Nat.{ℕ}
 use mathlib.Core.Path.{_≡_, refl, ap, sym, _∙_}
