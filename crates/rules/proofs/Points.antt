@@ -43,6 +43,15 @@ module _ (r : Record) (o : Offered) where
       → stagedCounts r o j ≡ notAccepted
   staged-not-accepted j a = rw a
 
+  -- only normal keeps a score
+  pub single-without-score : (j : Judged Plan Verdict) → (r .severity ≡ normal → ⊥) → j .verdict .accepted ≡ true
+      → singleCounts r o j ≡ scoreZero
+  single-without-score j n a = rw (ne-eqb (r .severity) 0 n, a)
+
+  pub staged-without-score : (j : Judged StagedPlan Verdict) → (r .severity ≡ normal → ⊥) → j .verdict .accepted ≡ true
+      → stagedCounts r o j ≡ scoreZero
+  staged-without-score j n a = rw (ne-eqb (r .severity) 0 n, a)
+
   module _ (n : r .severity ≡ normal) where
     pub single-points : (j : Judged Plan Verdict) → j .verdict .accepted ≡ true → SinglePoints o j (singleCounts r o j)
     single-points j a = rw (n, a) record {

@@ -1,15 +1,19 @@
 -- Document 01, 'Slips that look harmless', of the severity record, and other edges of its switches: histories at
--- which a slip would end elsewhere; and which refusal a history reports, at which place.
+-- which a slip would end elsewhere; what is left without resubmitted lots; and which refusal a history reports, at
+-- which place.
 -- Assumes nothing.
 use Prim.Native.Nat.{ℕ}
 use mathlib.Core.Path.{_≡_, refl}
+use mathlib.Core.Bool.{Bool, true, false, not}
 use mathlib.Core.List.{List, [], _∷_, _++_}
 use lib.ListN.{length, replicate}
 use Rattle.rules.specs.Refusals.{Answer, refused, given}
 use Rattle.rules.specs.Severity.{onLot, onResubmitted, onOrder, onCorrective, step}
 use Rattle.rules.specs.Reading.{severityRead, stayAfter, steadyIn, permissionIn, notAcceptedIn, runOf}
-use Rattle.rules.specs.Reading.{pointsOf, readLot, readOrder, readEvent}
-use Rattle.rules.specs.History.{ours, past, eventIn, eventOf, afterFrom, listed}
+use Rattle.rules.specs.Reading.{pointsOf, readLot, readOrder, readEvent, isResubmitted, severitiesAt}
+use Rattle.rules.specs.History.{ours, past, eventIn, eventOf, afterFrom, listed, withoutFours}
+use Rattle.rules.specs.Entries.{Offered}
+use Rattle.rules.specs.Runs.{Call, single, staged, total, byte, withoutResubmissions}
 
 ends : List ℕ → List ℕ
 ends h = severityRead (ours .permission) (past ours h (length h)) ∷ []
@@ -22,6 +26,20 @@ answered (given m) = m ∷ []
 -- from normal to tightened, with four not accepted there
 nearStopped : List ℕ
 nearStopped = replicate 6 3
+
+-- four calls with a resubmitted lot, one with an original lot, an order
+offered : Bool → Offered
+offered again = record { again = again; size = 10; level = 5; column = 5 }
+
+calls : List Call
+calls =
+    single (offered true) [] []
+    ∷ staged (offered true) [] []
+    ∷ total (offered true) 0
+    ∷ byte 4
+    ∷ total (offered false) 0
+    ∷ byte 5
+    ∷ []
 
 pub computed : List (List ℕ)
 computed =
@@ -42,12 +60,19 @@ computed =
     -- "add 2", "score 0"
     ∷ ends (5 ∷ 7 ∷ replicate 14 1)
     ∷ ends (5 ∷ 7 ∷ replicate 15 1)
+    ∷ ends ((5 ∷ 7 ∷ replicate 9 0) ++ (1 ∷ []))
     ∷ ends ((5 ∷ 7 ∷ replicate 9 0) ++ (2 ∷ 0 ∷ []))
     -- "steady withdrawn or permission withdrawn gives normal", and each as last ordered
     ∷ ends ((5 ∷ 7 ∷ replicate 10 0) ++ (6 ∷ []))
     ∷ ends ((5 ∷ 7 ∷ replicate 10 0) ++ (8 ∷ []))
     ∷ ends (5 ∷ 7 ∷ 6 ∷ 5 ∷ replicate 10 0)
     ∷ ends (5 ∷ 7 ∷ 8 ∷ 7 ∷ replicate 10 0)
+    -- "a corrective action order gives tightened"
+    ∷ ends (nearStopped ++ (3 ∷ 9 ∷ []))
+    -- what is left without resubmitted lots: bytes, severities, calls
+    ∷ withoutFours (0 ∷ 4 ∷ 3 ∷ 4 ∷ 5 ∷ [])
+    ∷ severitiesAt (λ e. not (isResubmitted e)) false (past ours (3 ∷ 4 ∷ 3 ∷ 4 ∷ []) 4)
+    ∷ (length (withoutResubmissions ours calls) ∷ [])
     -- "a history reports its first bad byte (1, 5 or 10, with its place counted from 0) before 11"
     ∷ answered (listed ours (0 ∷ 12 ∷ []) 0)
     ∷ answered (listed ours (nearStopped ++ (3 ∷ 0 ∷ [])) 0)
@@ -74,7 +99,12 @@ said =
     ∷ (0 ∷ [])
     ∷ (0 ∷ [])
     ∷ (0 ∷ [])
+    ∷ (0 ∷ [])
     ∷ (2 ∷ [])
+    ∷ (2 ∷ [])
+    ∷ (1 ∷ [])
+    ∷ (0 ∷ 3 ∷ 5 ∷ [])
+    ∷ (1 ∷ 0 ∷ [])
     ∷ (2 ∷ [])
     ∷ (1 ∷ 1 ∷ [])
     ∷ (5 ∷ 7 ∷ [])
@@ -84,7 +114,8 @@ said =
     ∷ []
 
 pub slips : computed ≡ said
-unfolding computed said ends answered nearStopped listed afterFrom stayAfter steadyIn permissionIn notAcceptedIn runOf
+unfolding computed said ends answered nearStopped offered calls withoutFours severitiesAt withoutResubmissions listed
+    afterFrom stayAfter steadyIn permissionIn notAcceptedIn runOf
     pointsOf readLot readOrder readEvent past eventIn eventOf step onLot onResubmitted onOrder onCorrective
     lib.Count.ones
 slips = refl

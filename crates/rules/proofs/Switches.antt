@@ -14,8 +14,8 @@ use Rattle.rules.specs.Codes.{normal, tightened, reduced, stopped}
 use Rattle.rules.specs.Severity.{Origin, Lot, addThree, addTwo, scoreZero, notAccepted, accepted, Event, lot}
 use Rattle.rules.specs.Severity.{resubmitted, steadyIs, permissionIs, corrective, unknown, due}
 use Rattle.rules.specs.Reading.{steadyIn, permissionIn, notAcceptedIn, runOf, pointsOf, scoreOf, Stay, stayOf}
-use Rattle.rules.specs.Reading.{readSettled, readNormal, readTightened, readLot, readOrder, readEvent}
-use Rattle.rules.specs.Reading.{stayAfter, severityRead, lotsWith, staysIn}
+use Rattle.rules.specs.Reading.{readSettled, readNormal, readTightened, readLot, readOrder, readCorrective}
+use Rattle.rules.specs.Reading.{readEvent, stayAfter, severityRead, lotsWith, staysIn}
 use Rattle.rules.proofs.Stays.{Few, run-not-accepted, present-stay, tightened-few}
 
 stopped-event : (e : Event) (st pe : Bool) (s : ℕ) (ls : List Lot) → s ≡ stopped
@@ -35,6 +35,11 @@ unfolding stayAfter
 stopped-left start e es h =
     stopped-event e (steadyIn (e ∷ es)) (permissionIn start (e ∷ es)) (severityRead start es)
     (stayAfter start es .lots) h
+
+pub stopped-corrected : (start : Bool) (es : List Event) → severityRead start es ≡ stopped
+    → severityRead start (corrective ∷ es) ≡ tightened
+unfolding stayAfter readEvent
+stopped-corrected start es h = ap (λ (s : ℕ). readCorrective s (stayAfter start es .lots) .severity) h
 
 -- points come from accepted lots alone, three at most for each
 points-run : (ls : List Lot) → pointsOf ls ≤ 3 * runOf ls

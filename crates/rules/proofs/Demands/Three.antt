@@ -23,7 +23,8 @@ use Rattle.rules.specs.Runs.{isResubmission, withoutResubmissions, recor
 use Rattle.rules.proofs.Range.{fresh-range, step-range, after-range}
 use Rattle.rules.proofs.Agreement.{agree, severity-agrees}
 use Rattle.rules.proofs.Stays.{Every, AtMost25, tightened-stays, Whole, stays-whole}
-use Rattle.rules.proofs.Switches.{stopped-left, LeavesTightened, tightened-left, EndsReduced, LeavesReduced}
+use Rattle.rules.proofs.Switches.{stopped-left, stopped-corrected, LeavesTightened, tightened-left}
+use Rattle.rules.proofs.Switches.{EndsReduced, LeavesReduced}
 use Rattle.rules.proofs.Switches.{reduced-left, ReducedStarts, reduced-starts}
 use Rattle.rules.proofs.Resubmitted.{left-severities, without-resubmitted, resubmitted-in, resubmitted-reads}
 use Rattle.rules.proofs.Bytes.{corrective-byte, past-more, past-whole, past-append, past-put-in, past-without}
@@ -96,6 +97,11 @@ history-stays start es = stays-whole start es
 pub history-stopped : (start : Bool) (e : Event) (es : List Event) → severityRead start es ≡ stopped
     → (severityRead start (e ∷ es) ≡ stopped) ⊎ (e ≡ corrective)
 history-stopped start e es h = stopped-left start e es h
+
+-- It gives tightened.
+pub history-corrected : (start : Bool) (es : List Event) → severityRead start es ≡ stopped
+    → severityRead start (corrective ∷ es) ≡ tightened
+history-corrected start es h = stopped-corrected start es h
 
 -- byte 9 is that order
 pub bytes-stopped : (w : Work) (h : List ℕ) (b : ℕ) → severityRead (w .permission) (past w h (length h)) ≡ stopped
