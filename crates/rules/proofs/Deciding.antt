@@ -9,12 +9,13 @@ use mathlib.Core.List.{List, [], _∷_, map}
 use native.Mathlib.Nat.{add-zero, le-of-suc-le-suc, le-refl, zero-add}
 use native.Mathlib.Numerals.{add-one}
 use native.Mathlib.Omega.{arith}
-use lib.Dec.{ltb}
+use borrow.Author.Tests.{le-ltb}
+use lib.Dec.{leb, ltb}
 use lib.ListN.{length, getD, take}
 use Rattle.rules.specs.Refusals.{Answer, refused, given, illegalItem}
 use Rattle.rules.specs.Numbers.{numbersOf, halfLeft, sumOf}
 use Rattle.rules.specs.Codes.{illegal, anyIllegal}
-use Rattle.rules.specs.Verdict.{Verdict, goesOn, ended, decided}
+use Rattle.rules.specs.Verdict.{Verdict, accepts, rejects, goesOn, ended, decided}
 use Rattle.rules.specs.Sequential.{SequentialPlan, itemDecides, sequentialVerdict, sequentialFrom, judgeSequence}
 use Rattle.rules.specs.Staged.{Stage, StagedPlan, stagesFrom, stagesOf, totalSize, stageDecides, Taken}
 use Rattle.rules.specs.Staged.{stageAt, missing, over}
@@ -23,6 +24,7 @@ use Rattle.rules.specs.Staged.{judgeStages}
 use Rattle.rules.proofs.Parts.{Part, endOf, decidesAt, says, Decides, Say, afterPart, walk, Judged, sound}
 use Rattle.rules.proofs.Parts.{complete}
 use Rattle.rules.proofs.Parts.{Meets, Met, length-wrong, item-illegal, refused-met, meets-refused}
+use Rattle.rules.proofs.Bounded.{by-le, never}
 use Rattle.rules.proofs.Items.{IllegalAt, illegal-means, illegal-when, all-legal, no-half}
 use Rattle.rules.proofs.Answers.{refused-given}
 use Rattle.rules.proofs.Refusals.{Row, NoRow, Reports, stops, passes, nothing-wrong}
@@ -467,3 +469,19 @@ pub never-runs-out : (plan : StagedPlan) → 0 < plan .stages
     → ((i : ℕ) → i < plan .stages → stageDecides (stageAt plan i) (sumOf (take (sizeOfFirst (suc i) plan) xs)) ≡ goesOn)
     → ⊥
 never-runs-out plan some decides xs go = decides _ (go (plan .stages - 1) (omega arith))
+
+-- At nt at the latest At decides, so that no sequential sample goes past nt.
+pub last-decides : (p : SequentialPlan) (n d : ℕ) → p .nt ≤ n → itemDecides p n d ≡ goesOn → ⊥
+unfolding itemDecides
+last-decides p n d l e = go (leb d (p .atNt)) (sym (rw (le-ltb n (p .nt) l)) ∙ e)
+  where
+    go : (t : Bool) → cond t accepts rejects ≡ goesOn → ⊥
+    go true e = never cc
+    go false e = never cc
+
+pub never-past : (p : SequentialPlan) → 0 < p .nt → (sample : List ℕ) (v : Verdict) → EndsAtItem p sample v
+    → v .used ≤ p .nt
+never-past p some sample v e =
+    let used : length (numbersOf sample) ≡ v .used = ap (λ (w : Verdict). w .used) (e .verdict) in
+    by-le (v .used) (p .nt) (λ l. l)
+    (λ l. absurd (last-decides p (p .nt) _ (le-refl (p .nt)) (e .earlier (p .nt) some (omega arith))))

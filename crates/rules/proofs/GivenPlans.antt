@@ -1,11 +1,12 @@
 -- The plans that entries give: each passes the test of plans handed over, and has what the rules of its section give.
 -- Assumes nothing.
 use Prim.Native.Nat.{ℕ, suc, _≤_, _<_}
-use mathlib.Core.Path.{_≡_, refl}
-use mathlib.Core.Bool.{Bool, true, false, _&&_}
-use mathlib.Core.List.{List}
+use mathlib.Core.Path.{_≡_, refl, sym, ap}
+use mathlib.Core.Bool.{Bool, true, false, cond, _&&_}
+use mathlib.Core.List.{List, [], _∷_}
+use native.Mathlib.Nat.{le-refl}
 use native.Mathlib.Omega.{arith}
-use borrow.Author.Tests.{eqb-true, eqb-false}
+use borrow.Author.Tests.{eqb-true, eqb-false, leb-false}
 use lib.ListN.{length, getD, take}
 use lib.Dec.{T, leb, eqb, leb→le}
 use Rattle.rules.specs.Refusals.{given}
@@ -16,37 +17,35 @@ use Rattle.rules.specs.Book.{variablesOf, couldHold}
 use Rattle.rules.specs.Book.{keyOf, keyFor}
 use Rattle.rules.specs.Numbers.{numbersOf, sumOf}
 use Rattle.rules.specs.Layout.{EntryIn}
-use Rattle.rules.specs.Single.{Plan, sizes, tablePlan, landing, landingOf, boxAt}
-use Rattle.rules.specs.Verdict.{goesOn}
-use Rattle.rules.specs.Staged.{StagedPlan, stageAt, stageDecides}
-use Rattle.rules.specs.Sequential.{SequentialPlan}
+use Rattle.rules.specs.Single.{Plan, sizes, cutTo, tablePlan, landing, landingOf, boxAt}
+use Rattle.rules.specs.Verdict.{Verdict, goesOn}
+use Rattle.rules.specs.Staged.{StagedPlan, stagesOf, totalSize, stageAt, stageDecides}
+use Rattle.rules.specs.Sequential.{SequentialPlan, judgeSequence}
 use Rattle.rules.specs.Variables.{VariablesPlan}
 use Rattle.rules.specs.Entries.{Asked, stagedPlan, sequentialPlan}
 use Rattle.rules.specs.Entries.{variablesPlan, stagedEntry, sequentialEntry, variablesEntry, stagedSection}
 use Rattle.rules.specs.Entries.{reducedSection, sequentialSection, variablesSection, singlePlan}
-use Rattle.rules.specs.Entries.{singleEntry}
+use Rattle.rules.specs.Entries.{singleEntry, reducedPlan}
 use Rattle.rules.proofs.Bounded.{by-le, all, all-at, all-at₃, both-left, both-right}
 use Rattle.rules.proofs.Tables.{letter-within, landing-letter}
-use Rattle.rules.proofs.Deciding.{sizeOfFirst, never-runs-out}
+use Rattle.rules.proofs.Deciding.{sizeOfFirst, never-runs-out, never-past, sequence-decided}
 use Rattle.rules.proofs.EntryLaws.{Supplies}
 use Rattle.rules.proofs.Demands.Two.{staged-plan-given, sequential-plan-given, variables-plan-given}
 use Rattle.rules.proofs.Demands.Two.{SinglePlanned}
 use Rattle.rules.proofs.Demands.Two.{single-plan-given}
 use Rattle.rules.proofs.Checks.{Plannable}
-use Rattle.rules.proofs.LookUp.{Held, found-held, entry-in-found}
+use Rattle.rules.proofs.LookUp.{Held, found-in, found-under, found-held, entry-in-found}
 use Rattle.rules.proofs.HeldPlans.{SingleRight, cut-right, reduced-held, single-could}
 use Rattle.rules.proofs.HeldPlans.{SequentialRight, sequential-held, sequential-could, VariablesRight}
 use Rattle.rules.proofs.HeldPlans.{variables-held, variables-could}
 use Rattle.rules.proofs.HeldStaged.{StagedRight, staged-held, staged-could}
 
--- An entry of a sound book under the key of a lot that can be planned, and not above it, supplies the plan: no such
--- lot is
--- refused 6.
-pub entry-supplies : {P : Type 0} (j : ℕ) (needed : List ℕ → ℕ) (planOf : List ℕ → P) (q : Asked) (book : List ℕ)
+-- an entry of a sound book under the key of a lot that can be planned, and not above it, supplies the plan
+supplies : {P : Type 0} (j : ℕ) (needed : List ℕ → ℕ) (planOf : List ℕ → P) (q : Asked) (book : List ℕ)
     → j < length kinds → checkBook book ≡ sound → Plannable q → (e : List ℕ) → EntryIn j (numbersOf book) e
     → keyOf (kindAt j) e ≡ keyFor (kindAt j) (q .severity) (letterOf (q .size) (q .level)) (q .column)
     → needed e ≤ q .size → Supplies j needed planOf q book (planOf e)
-entry-supplies j needed planOf q book inside good lot e x u fits =
+supplies j needed planOf q book inside good lot e x u fits =
     record {
       book-sound = good;
       lot = lot;
@@ -56,6 +55,48 @@ entry-supplies j needed planOf q book inside good lot e x u fits =
       within-lot = fits;
       is-plan = refl;
     }
+
+-- A lot that can be planned, of severity, Table 1 letter and column, and an entry of a sound book.
+module _ (q : Asked) (book : List ℕ) (good : checkBook book ≡ sound) (lot : Plannable q) (e : List ℕ) where
+  -- The lot's key, with the severity in sections 2 to 4.
+  abbrev pub Under : Type 0
+  Under = take 3 e ≡ q .severity ∷ letterOf (q .size) (q .level) ∷ q .column ∷ []
+
+  -- Under reduced inspection a single plan is given, cut to the lot: no entry is above it.
+  pub reduced-supplies : q .severity ≡ reduced → EntryIn reducedSection (numbersOf book) e
+      → take 2 e ≡ letterOf (q .size) (q .level) ∷ q .column ∷ [] → singlePlan q book ≡ given (reducedPlan q e)
+  reduced-supplies s x u =
+      single-plan-given q book (reducedPlan q e) .1
+      (record {
+        book-sound = good;
+        lot = lot;
+        from-book =
+            λ r. (
+              e,
+              entry-in-found book good reducedSection (omega arith) (q .severity) (letterOf (q .size) (q .level))
+              (q .column) e x u,
+              refl,
+            );
+        from-tables = λ r. absurd (r s);
+      })
+
+  -- A staged, sequential or variables plan is given where it is not above the lot.
+  pub staged-supplies : EntryIn stagedSection (numbersOf book) e → Under
+      → totalSize (stagesOf (stagedOf e)) ≤ q .size → stagedPlan q book ≡ given (stagedOf e)
+  staged-supplies x u fits =
+      staged-plan-given q book (stagedOf e) .1 (supplies stagedSection _ stagedOf q book (omega arith) good lot e x u fits)
+
+  pub sequential-supplies : EntryIn sequentialSection (numbersOf book) e → Under → sequentialOf e .nt ≤ q .size
+      → sequentialPlan q book ≡ given (sequentialOf e)
+  sequential-supplies x u fits =
+      sequential-plan-given q book (sequentialOf e) .1
+      (supplies sequentialSection _ sequentialOf q book (omega arith) good lot e x u fits)
+
+  pub variables-supplies : EntryIn variablesSection (numbersOf book) e → Under → variablesOf e .n ≤ q .size
+      → variablesPlan q book ≡ given (variablesOf e)
+  variables-supplies x u fits =
+      variables-plan-given q book (variablesOf e) .1
+      (supplies variablesSection _ variablesOf q book (omega arith) good lot e x u fits)
 
 -- the entry that supplies a plan could be held
 supplied-held : {P : Type 0} (j : ℕ) (needed : List ℕ → ℕ) (planOf : List ℕ → P) (q : Asked) (book : List ℕ) (p : P)
@@ -85,6 +126,12 @@ module _ (q : Asked) (book : List ℕ) where
       let s = sequential-plan-given q book p .0 h in
       let k : Held sequential (s .entry) = supplied-held sequentialSection _ sequentialOf q book p (omega arith) s in
       rw (← s .is-plan) (sequential-held (s .entry) k, sequential-could (s .entry) k)
+
+  -- nt decides at the latest, so that no sample on such a plan uses more items
+  pub sequential-in-time : (p : SequentialPlan) → sequentialPlan q book ≡ given p → (sample : List ℕ) (v : Verdict)
+      → judgeSequence p sample ≡ given v → v .used ≤ p .nt
+  sequential-in-time p h sample v j =
+      never-past p (sequential-given p h .0 .nt .0) sample v (sequence-decided p sample v .0 j)
 
   pub variables-given : (p : VariablesPlan) → variablesPlan q book ≡ given p
       → VariablesRight p × (couldHold variables (variablesEntry p) ≡ true)
@@ -144,3 +191,45 @@ single-given q book p h = let r : SingleRight p = go (eqb (q .severity) reduced)
         let low : q .severity < 2 =
         by-le 2 (q .severity) (λ l. absurd (other (omega (arith, s .lot .severity)))) (λ l. l) in
         rw (← s .from-tables other) (table-right q low (s .lot .size) (s .lot .column))
+
+cut-within : (lot n : ℕ) → cutTo lot n ≤ lot
+cut-within lot n = go (leb lot n) refl
+  where
+    go : (t : Bool) → leb lot n ≡ t → cond t lot n ≤ lot
+    go true e = le-refl lot
+    go false e = omega (arith, leb-false lot n e)
+
+-- A single plan's Ac is the table's, or under reduced inspection that of the entry under the key; its size is never
+-- above the lot.
+module _ (q : Asked) (book : List ℕ) (p : Plan) (h : singlePlan q book ≡ given p) where
+  planned : SinglePlanned q book p
+  planned = single-plan-given q book p .0 h
+
+  pub table-ac : (q .severity ≡ reduced → ⊥)
+      → p .ac ≡ landingOf (q .severity) (q .column) (letterOf (q .size) (q .level)) .ac
+  unfolding tablePlan
+  table-ac other = sym (ap (λ (x : Plan). x .ac) (planned .from-tables other))
+
+  pub reduced-ac : q .severity ≡ reduced
+      → (e : List ℕ) × EntryIn reducedSection (numbersOf book) e
+      × (take 2 e ≡ letterOf (q .size) (q .level) ∷ q .column ∷ []) × (p .ac ≡ getD e 3 0)
+  reduced-ac s =
+      let b = planned .from-book s in
+      let good = planned .book-sound in (
+        b .0,
+        found-in book good reducedSection (omega arith) (q .severity) (letterOf (q .size) (q .level)) (q .column)
+        (b .0) (b .1),
+        found-under book good reducedSection (omega arith) (q .severity) (letterOf (q .size) (q .level)) (q .column)
+        (b .0) (b .1),
+        sym (ap (λ (x : Plan). x .ac) (b .2)),
+      )
+
+  pub single-cut : p .n ≤ q .size
+  unfolding tablePlan
+  single-cut = go (eqb (q .severity) reduced) refl
+    where
+      go : (t : Bool) → eqb (q .severity) reduced ≡ t → p .n ≤ q .size
+      go true t =
+          rw (← planned .from-book (eqb-true (q .severity) reduced t) .2) (cut-within (q .size) _)
+      go false t =
+          rw (← planned .from-tables (eqb-false (q .severity) reduced t)) (cut-within (q .size) _)

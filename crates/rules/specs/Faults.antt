@@ -1,5 +1,5 @@
--- Document 01, 'Plan book': what is wrong with a book, as a predicate on its bytes with no check in it.
--- Definitions only.
+-- Document 01, 'Plan book': what is wrong with a book, as a predicate on its bytes with no walk in it: by the ranges,
+-- the rules and the key order of its kinds of section. Definitions only.
 -- Places are counted in numbers from the start of a stretch; `BookFault` turns them into bytes.
 use Prim.Native.Nat.{ℕ, suc, _+_, _*_, _≤_, _<_}
 use mathlib.Core.Path.{_≡_}
