@@ -74,7 +74,7 @@ module _ (q : Asked) (book : List ℕ) (good : checkBook book ≡ sound) (lot : 
             λ r. (
               e,
               entry-in-found book good reducedSection (omega arith) (q .severity) (letterOf (q .size) (q .level))
-              (q .column) e x u,
+                  (q .column) e x u,
               refl,
             );
         from-tables = λ r. absurd (r s);
@@ -84,7 +84,8 @@ module _ (q : Asked) (book : List ℕ) (good : checkBook book ≡ sound) (lot : 
   pub staged-supplies : EntryIn stagedSection (numbersOf book) e → Under
       → totalSize (stagesOf (stagedOf e)) ≤ q .size → stagedPlan q book ≡ given (stagedOf e)
   staged-supplies x u fits =
-      staged-plan-given q book (stagedOf e) .1 (supplies stagedSection _ stagedOf q book (omega arith) good lot e x u fits)
+      staged-plan-given q book (stagedOf e) .1
+      (supplies stagedSection _ stagedOf q book (omega arith) good lot e x u fits)
 
   pub sequential-supplies : EntryIn sequentialSection (numbersOf book) e → Under → sequentialOf e .nt ≤ q .size
       → sequentialPlan q book ≡ given (sequentialOf e)
@@ -218,9 +219,9 @@ module _ (q : Asked) (book : List ℕ) (p : Plan) (h : singlePlan q book ≡ giv
       let good = planned .book-sound in (
         b .0,
         found-in book good reducedSection (omega arith) (q .severity) (letterOf (q .size) (q .level)) (q .column)
-        (b .0) (b .1),
+            (b .0) (b .1),
         found-under book good reducedSection (omega arith) (q .severity) (letterOf (q .size) (q .level)) (q .column)
-        (b .0) (b .1),
+            (b .0) (b .1),
         sym (ap (λ (x : Plan). x .ac) (b .2)),
       )
 
