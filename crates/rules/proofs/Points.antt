@@ -1,5 +1,5 @@
--- How a closed lot counts: its points at normal, not accepted at every severity, and that the record takes an original
--- lot as it counts.
+-- How a closed lot counts: its points at normal, and what it counts elsewhere; the record takes an original lot as it
+-- counts; and lots closed at each edge, computed.
 -- Assumes nothing.
 use Prim.Native.Nat.{ℕ, _≤_, _<_}
 use mathlib.Core.Path.{_≡_, refl, sym, ap, _∙_}
@@ -15,7 +15,7 @@ use Rattle.rules.specs.Single.{Plan, tablePlan, landing, boxAt, tighterA
 use Rattle.rules.specs.Staged.{StagedPlan, stagesFrom, totalSize, stageDecides, takeItems, stagedFrom}
 use Rattle.rules.specs.Staged.{judgeStages}
 use Rattle.rules.specs.Severity.{Lot, addThree, addTwo, scoreZero, notAccepted, sampled, lot, resubmitted}
-use Rattle.rules.specs.Severity.{Record, onNormal, onLot, step, figuresInRange}
+use Rattle.rules.specs.Severity.{Record, onNormal, onLot, step, figuresInRange, counted}
 use Rattle.rules.specs.Book.{checkBook, checkedAs, sections, section, entries, entry, shift, thenFrom, keyFalls}
 use Rattle.rules.specs.Book.{rises, numbersFrom, right, stagedRule, stagedNumber, acKeeps, reKeeps, sameKey}
 use Rattle.rules.specs.Book.{seek, seekIn, lookUp, every}
@@ -35,37 +35,35 @@ pub record StagedPoints (j : Judged StagedPlan Verdict) (l : Lot) : Type 0 where
   pub first-stage : j .verdict .stage ≡ 1 → l ≡ addThree
   pub later-stage : (j .verdict .stage ≡ 1 → ⊥) → l ≡ scoreZero
 
+-- How a lot counts that is closed under a severity: only normal keeps a score.
+pub record Counts (severity : ℕ) (accepted : Bool) (Points : Lot → Type 0) (l : Lot) : Type 0 where
+  pub rejected : accepted ≡ false → l ≡ notAccepted
+  pub without-score : accepted ≡ true → (severity ≡ normal → ⊥) → l ≡ scoreZero
+  pub with-score : accepted ≡ true → severity ≡ normal → Points l
+
+counts-as : (severity : ℕ) (accepted : Bool) (Points : Lot → Type 0) (l : Lot) → Points l
+    → Counts severity accepted Points (counted severity accepted l)
+counts-as severity accepted Points l p = record {
+  rejected = λ a. rw a;
+  without-score = λ a n. rw (a, ne-eqb severity 0 n);
+  with-score = λ a n. rw (a, n) p;
+}
+
 module _ (r : Record) (o : Offered) where
-  pub single-not-accepted : (j : Judged Plan Verdict) → j .verdict .accepted ≡ false → singleCounts r o j ≡ notAccepted
-  single-not-accepted j a = rw a
+  pub single-counts : (j : Judged Plan Verdict)
+      → Counts (r .severity) (j .verdict .accepted) (SinglePoints o j) (singleCounts r o j)
+  single-counts j = counts-as (r .severity) (j .verdict .accepted) (SinglePoints o j) _ record {
+    low-ac = λ h. rw (lt-leb 2 (j .plan .ac) (omega arith));
+    within-tighter = λ h k. rw (le-leb 2 (j .plan .ac) h, le-leb (j .verdict .total) _ k);
+    beyond-tighter = λ h k. rw (le-leb 2 (j .plan .ac) h, lt-leb (j .verdict .total) _ k);
+  }
 
-  pub staged-not-accepted : (j : Judged StagedPlan Verdict) → j .verdict .accepted ≡ false
-      → stagedCounts r o j ≡ notAccepted
-  staged-not-accepted j a = rw a
-
-  -- only normal keeps a score
-  pub single-without-score : (j : Judged Plan Verdict) → (r .severity ≡ normal → ⊥) → j .verdict .accepted ≡ true
-      → singleCounts r o j ≡ scoreZero
-  single-without-score j n a = rw (ne-eqb (r .severity) 0 n, a)
-
-  pub staged-without-score : (j : Judged StagedPlan Verdict) → (r .severity ≡ normal → ⊥) → j .verdict .accepted ≡ true
-      → stagedCounts r o j ≡ scoreZero
-  staged-without-score j n a = rw (ne-eqb (r .severity) 0 n, a)
-
-  module _ (n : r .severity ≡ normal) where
-    pub single-points : (j : Judged Plan Verdict) → j .verdict .accepted ≡ true → SinglePoints o j (singleCounts r o j)
-    single-points j a = rw (n, a) record {
-      low-ac = λ h. rw (lt-leb 2 (j .plan .ac) (omega arith));
-      within-tighter = λ h k. rw (le-leb 2 (j .plan .ac) h, le-leb (j .verdict .total) _ k);
-      beyond-tighter = λ h k. rw (le-leb 2 (j .plan .ac) h, lt-leb (j .verdict .total) _ k);
-    }
-
-    pub staged-points : (j : Judged StagedPlan Verdict) → j .verdict .accepted ≡ true
-        → StagedPoints j (stagedCounts r o j)
-    staged-points j a = rw (n, a) record {
-      first-stage = λ h. rw h;
-      later-stage = λ h. rw (ne-eqb (j .verdict .stage) 1 h);
-    }
+  pub staged-counts : (j : Judged StagedPlan Verdict)
+      → Counts (r .severity) (j .verdict .accepted) (StagedPoints j) (stagedCounts r o j)
+  staged-counts j = counts-as (r .severity) (j .verdict .accepted) (StagedPoints j) _ record {
+    first-stage = λ h. rw h;
+    later-stage = λ h. rw (ne-eqb (j .verdict .stage) 1 h);
+  }
 
   -- An original lot that is closed is the record's next event, as it counts.
   pub original-lot : {P : Type 0} (judged : Answer (Judged P Verdict)) (counts : Judged P Verdict → Lot) (c : Closed P)
@@ -74,13 +72,13 @@ module _ (r : Record) (o : Offered) where
   original-lot judged counts c a k =
       ap (λ (b : Bool). step r (cond b resubmitted (lot sampled (counts (c .judged))))) (sym a) ∙ k .stepped
 
--- severity, score and window after an original lot at normal, score 5; a refusal is its number
 fromFive : Record
 fromFive = onNormal 5 0 false false
 
 offered : ℕ → ℕ → ℕ → Offered
 offered size level column = record { again = false; size = size; level = level; column = column }
 
+-- severity, score and window after the lot; a refusal is its number
 closedAs : {P : Type 0} → Answer (Closed P) → List ℕ
 closedAs (refused n p) = n ∷ []
 closedAs (given c) = c .recordAfter .severity ∷ c .recordAfter .score ∷ c .recordAfter .window ∷ []

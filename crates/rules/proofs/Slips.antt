@@ -27,10 +27,10 @@ answered (given m) = m ∷ []
 nearStopped : List ℕ
 nearStopped = replicate 6 3
 
--- four calls with a resubmitted lot, one with an original lot, an order
 offered : Bool → Offered
 offered again = record { again = again; size = 10; level = 5; column = 5 }
 
+-- four calls with a resubmitted lot, one with an original lot, an order
 calls : List Call
 calls =
     single (offered true) [] []
