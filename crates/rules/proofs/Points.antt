@@ -15,7 +15,8 @@ use Rattle.rules.specs.Single.{Plan, tablePlan, landing, boxAt, tighterA
 use Rattle.rules.specs.Staged.{StagedPlan, stagesFrom, totalSize, stageDecides, takeItems, stagedFrom}
 use Rattle.rules.specs.Staged.{judgeStages}
 use Rattle.rules.specs.Severity.{Lot, addThree, addTwo, scoreZero, notAccepted, sampled, lot, resubmitted}
-use Rattle.rules.specs.Severity.{Record, onNormal, onLot, step, figuresInRange, counted}
+use Rattle.rules.specs.Severity.{Record, onNormal, onLot, step, figuresInRange, counted, singlePoints}
+use Rattle.rules.specs.Severity.{stagedPoints}
 use Rattle.rules.specs.Book.{checkBook, checkedAs, sections, section, entries, entry, shift, thenFrom, keyFalls}
 use Rattle.rules.specs.Book.{rises, numbersFrom, right, stagedRule, stagedNumber, acKeeps, reKeeps, sameKey}
 use Rattle.rules.specs.Book.{seek, seekIn, lookUp, every}
@@ -23,17 +24,26 @@ use Rattle.rules.specs.Entries.{Closed, Offered, singleCounts, stagedCou
 use Rattle.rules.specs.Entries.{judgeStaged, closeTotal, closeStaged}
 use Rattle.rules.proofs.EntryLaws.{Closes}
 
--- "Ac 2 or more: add 3 if the total is also within the Ac one column tighter at the letter that gives the size, else
--- score 0. Ac 0 or 1: add 2": the letter and the Ac are the plan's.
-pub record SinglePoints (o : Offered) (j : Judged Plan Verdict) (l : Lot) : Type 0 where
-  pub low-ac : j .plan .ac ≤ 1 → l ≡ addTwo
-  pub within-tighter : 2 ≤ j .plan .ac → j .verdict .total ≤ tighterAc (j .plan .letter) (o .column) → l ≡ addThree
-  pub beyond-tighter : 2 ≤ j .plan .ac → tighterAc (j .plan .letter) (o .column) < j .verdict .total → l ≡ scoreZero
+-- "Ac 2 or more: add 3 if the total is also within the Ac one column tighter .., else score 0. Ac 0 or 1: add 2."
+pub record SinglePoints (ac tighter total : ℕ) (l : Lot) : Type 0 where
+  pub low-ac : ac ≤ 1 → l ≡ addTwo
+  pub within-tighter : 2 ≤ ac → total ≤ tighter → l ≡ addThree
+  pub beyond-tighter : 2 ≤ ac → tighter < total → l ≡ scoreZero
+
+single-points : (ac tighter total : ℕ) → SinglePoints ac tighter total (singlePoints ac tighter total)
+single-points ac tighter total = record {
+  low-ac = λ h. rw (lt-leb 2 ac (omega arith));
+  within-tighter = λ h k. rw (le-leb 2 ac h, le-leb total tighter k);
+  beyond-tighter = λ h k. rw (le-leb 2 ac h, lt-leb total tighter k);
+}
 
 -- "Staged: add 3 if accepted at the first stage, else score 0."
-pub record StagedPoints (j : Judged StagedPlan Verdict) (l : Lot) : Type 0 where
-  pub first-stage : j .verdict .stage ≡ 1 → l ≡ addThree
-  pub later-stage : (j .verdict .stage ≡ 1 → ⊥) → l ≡ scoreZero
+pub record StagedPoints (stage : ℕ) (l : Lot) : Type 0 where
+  pub first-stage : stage ≡ 1 → l ≡ addThree
+  pub later-stage : (stage ≡ 1 → ⊥) → l ≡ scoreZero
+
+staged-points : (stage stages : ℕ) → StagedPoints stage (stagedPoints stage stages)
+staged-points stage stages = record { first-stage = λ h. rw h; later-stage = λ h. rw (ne-eqb stage 1 h) }
 
 -- How a lot counts that is closed under a severity: only normal keeps a score.
 pub record Counts (severity : ℕ) (accepted : Bool) (Points : Lot → Type 0) (l : Lot) : Type 0 where
@@ -50,20 +60,19 @@ counts-as severity accepted Points l p = record {
 }
 
 module _ (r : Record) (o : Offered) where
+  -- the Ac is the plan's, and the letter too, which gives the size
   pub single-counts : (j : Judged Plan Verdict)
-      → Counts (r .severity) (j .verdict .accepted) (SinglePoints o j) (singleCounts r o j)
-  single-counts j = counts-as (r .severity) (j .verdict .accepted) (SinglePoints o j) _ record {
-    low-ac = λ h. rw (lt-leb 2 (j .plan .ac) (omega arith));
-    within-tighter = λ h k. rw (le-leb 2 (j .plan .ac) h, le-leb (j .verdict .total) _ k);
-    beyond-tighter = λ h k. rw (le-leb 2 (j .plan .ac) h, lt-leb (j .verdict .total) _ k);
-  }
+      → Counts (r .severity) (j .verdict .accepted)
+      (SinglePoints (j .plan .ac) (tighterAc (j .plan .letter) (o .column)) (j .verdict .total))
+      (singleCounts r o j)
+  single-counts j =
+      counts-as (r .severity) (j .verdict .accepted) _ _
+      (single-points (j .plan .ac) (tighterAc (j .plan .letter) (o .column)) (j .verdict .total))
 
   pub staged-counts : (j : Judged StagedPlan Verdict)
-      → Counts (r .severity) (j .verdict .accepted) (StagedPoints j) (stagedCounts r o j)
-  staged-counts j = counts-as (r .severity) (j .verdict .accepted) (StagedPoints j) _ record {
-    first-stage = λ h. rw h;
-    later-stage = λ h. rw (ne-eqb (j .verdict .stage) 1 h);
-  }
+      → Counts (r .severity) (j .verdict .accepted) (StagedPoints (j .verdict .stage)) (stagedCounts r o j)
+  staged-counts j =
+      counts-as (r .severity) (j .verdict .accepted) _ _ (staged-points (j .verdict .stage) (j .verdict .stages))
 
   -- An original lot that is closed is the record's next event, as it counts.
   pub original-lot : {P : Type 0} (judged : Answer (Judged P Verdict)) (counts : Judged P Verdict → Lot) (c : Closed P)
