@@ -6,28 +6,30 @@ use mathlib.Core.Path.{_≡_, refl, sym, ap, _∙_}
 use mathlib.Core.Bool.{Bool, true, false, cond}
 use mathlib.Core.List.{List}
 use native.Mathlib.Omega.{arith}
-use borrow.Author.Tests.{ltb-false, le-ltb}
-use lib.Dec.{ltb, leb}
+use borrow.Author.Tests.{ltb-false}
+use lib.Dec.{ltb}
 use lib.ListN.{length, getD}
 use Rattle.rules.specs.Refusals.{Answer, refused, given}
 use Rattle.rules.specs.Numbers.{numbersOf}
-use Rattle.rules.specs.Verdict.{Verdict, Judged, accepts, rejects, goesOn}
+use Rattle.rules.specs.Verdict.{Verdict, Judged}
 use Rattle.rules.specs.Single.{Plan}
 use Rattle.rules.specs.Staged.{StagedPlan, totalSize, stagesFrom}
-use Rattle.rules.specs.Sequential.{SequentialPlan, itemDecides}
+use Rattle.rules.specs.Sequential.{SequentialPlan}
 use Rattle.rules.specs.Book.{Walk, ends, broken, short, sound, brokenAt, Checked, checkedAs, checkBook, sections, kinds}
-use Rattle.rules.specs.Entries.{Asked, judgeSingle, judgeStaged, judgeSequential}
+use Rattle.rules.specs.Entries.{Asked, judgeSingle, judgeStaged, judgeSequential, Closed, Offered}
+use Rattle.rules.specs.Entries.{askedOn, closeSingle, closeStaged}
+use Rattle.rules.specs.Severity.{Record, inRange}
 use Rattle.terminal.specs.Lent.{bookChecked}
-use Rattle.rules.proofs.Bounded.{by-le}
 use Rattle.rules.proofs.Numbers.{numbers-low}
 use Rattle.rules.proofs.Walks.{place, place-sections}
 use Rattle.rules.proofs.Refusals.{NoRow, Reports, nothing-wrong, refused-place}
 use Rattle.rules.proofs.EntryLaws.{OnBook, on-book}
-use Rattle.rules.proofs.Deciding.{EndsAtItem, EndsAtStage}
+use Rattle.rules.proofs.Deciding.{EndsAtStage, never-past}
 use Rattle.rules.proofs.HeldPlans.{SequentialRight}
 use Rattle.rules.proofs.HeldStaged.{StagedRight}
 use Rattle.rules.proofs.GivenPlans.{single-given, staged-given, sequential-given}
 use Rattle.rules.proofs.Demands.Two.{judge-single-given, judge-staged-given, judge-sequential-given}
+use Rattle.rules.proofs.Demands.Two.{close-single-given, close-staged-given}
 
 -- a broken book's byte is within the largest book
 byte-of : {b c : ℕ} → brokenAt b ≡ brokenAt c → b ≡ c
@@ -105,21 +107,23 @@ staged-used q book sample j e =
     let t = stages-size (j .plan) r (suc (s .done)) 0 (omega (arith, s .among)) in
     omega (arith, s .ends, s .among, r .few .1, t)
 
--- at nt a sequential sample is decided
-decided-at : (p : SequentialPlan) (d : ℕ) → itemDecides p (p .nt) d ≡ goesOn → ⊥
-unfolding itemDecides
-decided-at p d e = go (leb d (p .atNt)) (rw (le-ltb (p .nt) (p .nt) (omega arith)) at e)
-  where
-    go : (t : Bool) → cond t accepts rejects ≡ goesOn → ⊥
-    go true f = let z : _≡_ {A = ℕ} 0 1 = cc in omega arith
-    go false f = let z : _≡_ {A = ℕ} 0 1 = cc in omega arith
-
 pub sequential-used : (q : Asked) (book sample : List ℕ) (j : Judged SequentialPlan Verdict)
     → given j ≡ judgeSequential q book sample → j .verdict .used ≤ 14000
 sequential-used q book sample j e =
     let g = judge-sequential-given q book sample j .0 (sym e) in
-    let s : EndsAtItem (j .plan) sample (j .verdict) = g .1 in
-    let u : length (numbersOf sample) ≡ j .verdict .used = ap (λ (v : Verdict). v .used) (s .verdict) in
     let r : SequentialRight (j .plan) = sequential-given q book (j .plan) (g .0) .0 in
-    by-le (length (numbersOf sample)) (j .plan .nt) (λ l. omega (arith, r .nt .1))
-    (λ l. absurd (decided-at (j .plan) _ (s .earlier (j .plan .nt) (omega (arith, r .nt .0)) l)))
+    omega (arith, never-past (j .plan) (r .nt .0) sample (j .verdict) (g .1), r .nt .1)
+
+-- A lot that is closed has a record in range, and is judged as it is judged alone.
+module _ (r : Record) (o : Offered) (book sample : List ℕ) where
+  pub single-closes : {c : Closed Plan} → given c ≡ closeSingle r o book sample
+      → (inRange r ≡ true) × (c .judged .verdict .used ≤ 14000)
+  single-closes {c} e =
+      let k = close-single-given r o book sample c .0 (sym e) in
+      (k .in-range, single-used (askedOn r o) book sample (c .judged) (sym (k .as-judged)))
+
+  pub staged-closes : {c : Closed StagedPlan} → given c ≡ closeStaged r o book sample
+      → (inRange r ≡ true) × (c .judged .verdict .used ≤ 14000)
+  staged-closes {c} e =
+      let k = close-staged-given r o book sample c .0 (sym e) in
+      (k .in-range, staged-used (askedOn r o) book sample (c .judged) (sym (k .as-judged)))

@@ -2,8 +2,8 @@
 -- leave.
 -- Assumes nothing.
 use Prim.Native.Nat.{ℕ, _+_, _*_, _≤_, _<_}
-use mathlib.Core.Path.{_≡_, refl, sym}
-use mathlib.Core.Bool.{Bool, true, false, cond, false≢true}
+use mathlib.Core.Path.{_≡_, refl, sym, ap, _∙_}
+use mathlib.Core.Bool.{Bool, true, false, false≢true}
 use mathlib.Core.List.{List, [], _∷_}
 use native.Mathlib.Omega.{arith}
 use lib.ListN.{length, getD, set}
@@ -11,16 +11,18 @@ use lib.Dec.{eqb}
 use lib.Ieee.{Float}
 use borrow.Author.Tests.{eqb-true, le-leb, lt-leb, eq-eqb, ne-eqb}
 use Rattle.rules.specs.Refusals.{Answer, refused, given}
-use Rattle.rules.specs.Severity.{Record, figuresInRange, inRange}
+use Rattle.rules.specs.Single.{Plan}
+use Rattle.rules.specs.Severity.{Record, inRange}
 use Rattle.rules.specs.Screen.{Shown, mean, meanAndVariance}
 use Rattle.rules.specs.Terminal.{statusOf, recordBytes, flag, bytesOf, hasForm, outOfForm, recordIn}
 use Rattle.rules.specs.History.{ours}
-use Rattle.rules.specs.Entries.{next}
+use Rattle.rules.specs.Entries.{next, Closed}
 use Rattle.rules.proofs.Demands.Two as two
 use Rattle.rules.proofs.Bools.{and-left}
+use Rattle.rules.proofs.Terminal.{form-missing}
 use Rattle.severity.specs.Paper.{paperRecord}
 use Rattle.severity.specs.declared.Record as code
-use Rattle.terminal.specs.Lent.{NextLeft, ScreenLeft}
+use Rattle.terminal.specs.Lent.{PlanLeft, OutcomeLeft, ClosedLeft, NextLeft, ScreenLeft}
 
 module _ (bytes : List ℕ) where
   -- the figures of bytes of the right form
@@ -57,12 +59,12 @@ module _ (bytes : List ℕ) where
 
   -- bytes of another form hold no record in range
   pub in-range-length : inRange (recordIn bytes) ≡ true → length bytes ≡ recordBytes
-  unfolding recordIn hasForm figuresInRange
-  in-range-length h = go (hasForm bytes) refl h
+  unfolding hasForm
+  in-range-length h = go (hasForm bytes) refl
     where
-      go : (t : Bool) → hasForm bytes ≡ t → inRange (cond t held outOfForm) ≡ true → length bytes ≡ recordBytes
-      go true f e = eqb-true (length bytes) 7 (and-left (eqb (length bytes) 7) _ f)
-      go false f e = absurd (false≢true e)
+      go : (t : Bool) → hasForm bytes ≡ t → length bytes ≡ recordBytes
+      go true f = eqb-true (length bytes) 7 (and-left (eqb (length bytes) 7) _ f)
+      go false f = absurd (false≢true (sym (form-missing bytes f) ∙ h))
 
 -- seven stores fill seven bytes
 pub put-all : (bytes : List ℕ) (new : code.Record) (f g : ℕ) → length bytes ≡ recordBytes → f ≡ flag (new .steady)
@@ -87,6 +89,10 @@ pub next-length : (bytes : List ℕ) (byte : ℕ) {t : Record} → given t ≡ n
 next-length bytes byte {t} e =
     in-range-length bytes (two.next-given (recordIn bytes) ours byte t .0 (sym e) .0)
 
+-- the case that the code meets is the definition's answer
+pub met : {R A : Type 0} (paper : R → Answer A) {r x : R} {a : Answer A} → r ≡ x → paper r ≡ a → paper x ≡ a
+met paper e f = ap paper (sym e) ∙ f
+
 -- What a refusal and an answer tell and leave.
 module _ {A : Type 0} {a : Answer A} where
   pub told-refused : {n p s : ℕ} → refused n p ≡ a → s ≡ n + 256 * p → s ≡ statusOf a
@@ -94,6 +100,31 @@ module _ {A : Type 0} {a : Answer A} where
 
   pub told-given : {x : A} → given x ≡ a → 0 ≡ statusOf a
   told-given e = rw (← e)
+
+module _ {a : Answer Plan} {l m c : ℕ} where
+  pub plan-refused : {n p s : ℕ} → refused n p ≡ a → s ≡ n + 256 * p → PlanLeft a s l l m m c c
+  plan-refused e f =
+      record { status = told-refused e f; letter-left = rw (← e); n-left = rw (← e); ac-left = rw (← e) }
+
+  pub plan-given : {x : Plan} → given x ≡ a → PlanLeft a 0 l (x .letter) m (x .n) c (x .ac)
+  plan-given e = record { status = told-given e; letter-left = rw (← e); n-left = rw (← e); ac-left = rw (← e) }
+
+-- a verdict, of whatever was judged
+module _ {A : Type 0} {acceptedBy : A → Bool} {usedBy : A → ℕ} {a : Answer A} {b u : ℕ} where
+  pub outcome-refused : {n p s : ℕ} → refused n p ≡ a → s ≡ n + 256 * p → OutcomeLeft acceptedBy usedBy a s b b u u
+  outcome-refused e f = record { status = told-refused e f; accepted-left = rw (← e); used-left = rw (← e) }
+
+  pub outcome-given : {x : A} {b′ u′ : ℕ} → given x ≡ a → b′ ≡ flag (acceptedBy x) → u′ ≡ usedBy x
+      → OutcomeLeft acceptedBy usedBy a 0 b b′ u u′
+  outcome-given e f g = record { status = told-given e; accepted-left = rw (← e) f; used-left = rw (← e) g }
+
+module _ {P : Type 0} {a : Answer (Closed P)} {bytes : List ℕ} {b u : ℕ} where
+  pub closed-refused : {n p s : ℕ} → refused n p ≡ a → s ≡ n + 256 * p → ClosedLeft a s bytes bytes b b u u
+  closed-refused e f = record { outcome = outcome-refused e f; bytes-left = rw (← e) }
+
+  pub closed-given : {x : Closed P} {bytes′ : List ℕ} {b′ u′ : ℕ} → given x ≡ a → bytes′ ≡ bytesOf (x .recordAfter)
+      → b′ ≡ flag (x .judged .verdict .accepted) → u′ ≡ x .judged .verdict .used → ClosedLeft a 0 bytes bytes′ b b′ u u′
+  closed-given e f g h = record { outcome = outcome-given e g h; bytes-left = rw (← e) f }
 
 module _ {a : Answer Record} {bytes : List ℕ} where
   pub next-refused : {n p s : ℕ} → refused n p ≡ a → s ≡ n + 256 * p → NextLeft a s bytes bytes

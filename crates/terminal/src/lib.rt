@@ -1,16 +1,26 @@
 // The C terminal: the plan, the verdict and the next severity by numbers and byte slices. Each call returns 0, or the
 // refusal's number in the low byte and its place above it; a refusal writes nothing.
 ghost use mathlib.Core.Path.{_≡_};
+ghost use mathlib.Core.Bool.{true, false};
 ghost use Prim.Native.Nat.{_+_, _*_, _≤_};
 ghost use lib.ListN.{length};
 ghost use Rattle.rules.specs.Screen.{screen};
 ghost use Rattle.rules.specs.History.{ours};
-ghost use Rattle.rules.specs.Entries.{next};
+ghost use Rattle.rules.specs.Entries.{singlePlan, judgeSingle, judgeSequential, judgeVariables};
+ghost use Rattle.rules.specs.Entries.{next, closeSingle};
 ghost use Rattle.rules.specs.Terminal.{statusOf, recordBytes, flag, bytesOf, outOfForm, recordIn};
+ghost use Rattle.plans.specs.Paper.{asked};
 ghost use Rattle.severity.specs.Paper.{paperRecord};
-ghost use Rattle.terminal.specs.Lent.{NextLeft, bookChecked, ScreenLeft};
+ghost use Rattle.sentencing.specs.Paper.{offered};
+ghost use Rattle.terminal.specs.Lent.{PlanLeft, VerdictLeft, GaugedLeft, ClosedLeft, again, NextLeft};
+ghost use Rattle.terminal.specs.Lent.{bookChecked, ScreenLeft};
 use book::BookAnswer;
 use gauge::Shown;
+use plans::PlanAnswer;
+use sentencing::SequentialAnswer;
+use sentencing::SingleAnswer;
+use sentencing::SingleClosing;
+use sentencing::VariablesAnswer;
 use severity::Record;
 use severity::Stepped;
 
@@ -26,6 +36,14 @@ fn as_byte(b: bool) -> u8
     ensures { λ r. ⌜ r ≡ flag b ⌝ }
 {
     if b { 1 } else { 0 }
+}
+
+// The items used have 16 bits.
+fn narrow(used: u32) -> u16
+    requires { ⌜ used ≤ 14000 ⌝ }
+    ensures { λ r. ⌜ r ≡ used ⌝ }
+{
+    used as u16
 }
 
 // A record that no length and no byte of another form can stand for: out of range.
@@ -80,6 +98,144 @@ fn put_back(bytes: &mut [u8], new: Record)
     bytes[6] = as_byte(new.permission);
 }
 
+// The single plan of a lot.
+#[no_mangle]
+pub extern "C" fn hm_plan(
+    size: u32,
+    level: u32,
+    column: u32,
+    severity: u32,
+    book: &[u8],
+    letter: &mut u8,
+    n: &mut u16,
+    ac: &mut u16,
+) -> u32
+    ensures { λ r. ⌜ PlanLeft (singlePlan (asked severity size level column) (now (book .entry))) r
+        (now (letter .entry)) (now (letter .exit))
+        (now (n .entry)) (now (n .exit))
+        (now (ac .entry)) (now (ac .exit)) ⌝ }
+{
+    match sentencing::single_plan(size, level, column, severity, book) {
+        PlanAnswer::Refused(number, place) => status(number, place),
+        PlanAnswer::Given(plan) => {
+            *letter = plan.letter;
+            *n = plan.n;
+            *ac = plan.ac;
+            0
+        }
+    }
+}
+
+// The verdict on a single sample: accepted or not, and the items used.
+#[no_mangle]
+pub extern "C" fn hm_single(
+    size: u32,
+    level: u32,
+    column: u32,
+    severity: u32,
+    book: &[u8],
+    sample: &[u8],
+    accepted: &mut u8,
+    used: &mut u16,
+) -> u32
+    ensures { λ r. ⌜ VerdictLeft
+        (judgeSingle (asked severity size level column) (now (book .entry)) (now (sample .entry))) r
+        (now (accepted .entry)) (now (accepted .exit))
+        (now (used .entry)) (now (used .exit)) ⌝ }
+{
+    match sentencing::judge_single(size, level, column, severity, book, sample) {
+        SingleAnswer::Refused(number, place) => status(number, place),
+        SingleAnswer::Given(judged) => {
+            *accepted = as_byte(judged.verdict.accepted);
+            *used = narrow(judged.verdict.used);
+            0
+        }
+    }
+}
+
+// The verdict on a sequential sample.
+#[no_mangle]
+pub extern "C" fn hm_sequential(
+    size: u32,
+    level: u32,
+    column: u32,
+    severity: u32,
+    book: &[u8],
+    sample: &[u8],
+    accepted: &mut u8,
+    used: &mut u16,
+) -> u32
+    ensures { λ r. ⌜ VerdictLeft
+        (judgeSequential (asked severity size level column) (now (book .entry)) (now (sample .entry))) r
+        (now (accepted .entry)) (now (accepted .exit))
+        (now (used .entry)) (now (used .exit)) ⌝ }
+{
+    match sentencing::judge_sequential(size, level, column, severity, book, sample) {
+        SequentialAnswer::Refused(number, place) => status(number, place),
+        SequentialAnswer::Given(judged) => {
+            *accepted = as_byte(judged.verdict.accepted);
+            *used = narrow(judged.verdict.used);
+            0
+        }
+    }
+}
+
+// The verdict on readings for an upper limit.
+#[no_mangle]
+pub extern "C" fn hm_variables_upper(
+    size: u32,
+    level: u32,
+    column: u32,
+    severity: u32,
+    book: &[u8],
+    readings: &[u8],
+    limit: i32,
+    accepted: &mut u8,
+    used: &mut u16,
+) -> u32
+    ensures { λ r. ⌜ GaugedLeft
+        (judgeVariables true (asked severity size level column) (now (book .entry)) limit (now (readings .entry))) r
+        (now (accepted .entry)) (now (accepted .exit))
+        (now (used .entry)) (now (used .exit)) ⌝ }
+{
+    match sentencing::judge_variables(true, size, level, column, severity, book, limit, readings) {
+        VariablesAnswer::Refused(number, place) => status(number, place),
+        VariablesAnswer::Given(judged) => {
+            *accepted = as_byte(judged.verdict.accepted);
+            *used = judged.verdict.used;
+            0
+        }
+    }
+}
+
+// The verdict on readings for a lower limit.
+#[no_mangle]
+pub extern "C" fn hm_variables_lower(
+    size: u32,
+    level: u32,
+    column: u32,
+    severity: u32,
+    book: &[u8],
+    readings: &[u8],
+    limit: i32,
+    accepted: &mut u8,
+    used: &mut u16,
+) -> u32
+    ensures { λ r. ⌜ GaugedLeft
+        (judgeVariables false (asked severity size level column) (now (book .entry)) limit (now (readings .entry))) r
+        (now (accepted .entry)) (now (accepted .exit))
+        (now (used .entry)) (now (used .exit)) ⌝ }
+{
+    match sentencing::judge_variables(false, size, level, column, severity, book, limit, readings) {
+        VariablesAnswer::Refused(number, place) => status(number, place),
+        VariablesAnswer::Given(judged) => {
+            *accepted = as_byte(judged.verdict.accepted);
+            *used = judged.verdict.used;
+            0
+        }
+    }
+}
+
 // What a history byte makes of a lent record.
 #[no_mangle]
 pub extern "C" fn hm_next(supply: &mut [u8], event: u32) -> u32
@@ -91,6 +247,38 @@ pub extern "C" fn hm_next(supply: &mut [u8], event: u32) -> u32
         Stepped::Refused(number, place) => status(number, place),
         Stepped::Given(new) => {
             put_back(supply, new);
+            0
+        }
+    }
+}
+
+// A lot closed from a single sample; `resubmitted` 0 is an original lot.
+#[no_mangle]
+pub extern "C" fn hm_close_single(
+    supply: &mut [u8],
+    resubmitted: u32,
+    size: u32,
+    level: u32,
+    column: u32,
+    book: &[u8],
+    sample: &[u8],
+    accepted: &mut u8,
+    used: &mut u16,
+) -> u32
+    ensures { λ r. ⌜ ClosedLeft
+        (closeSingle (recordIn (now (supply .entry))) (offered (again resubmitted) size level column)
+        (now (book .entry)) (now (sample .entry))) r
+        (now (supply .entry)) (now (supply .exit))
+        (now (accepted .entry)) (now (accepted .exit))
+        (now (used .entry)) (now (used .exit)) ⌝ }
+{
+    let old = take_up(supply);
+    match sentencing::close_single(old, resubmitted != 0, size, level, column, book, sample) {
+        SingleClosing::Refused(number, place) => status(number, place),
+        SingleClosing::Given(closed) => {
+            put_back(supply, closed.record_after);
+            *accepted = as_byte(closed.judged.verdict.accepted);
+            *used = narrow(closed.judged.verdict.used);
             0
         }
     }

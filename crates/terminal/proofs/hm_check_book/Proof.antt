@@ -1,10 +1,7 @@
 -- `terminal::hm_check_book` meets its contract.
 -- Assumes nothing.
-use mathlib.Core.Path.{_≡_, sym, ap, _∙_}
-use Rattle.rules.specs.Refusals.{refused}
 use Rattle.book.specs.Paper.{bookPaper}
-use Rattle.terminal.specs.Lent.{bookChecked}
-use Rattle.terminal.proofs.Lending.{told-refused, told-given}
+use Rattle.terminal.proofs.Lending.{met, told-refused, told-given}
 use Rattle.terminal.proofs.Fits.{checked, book-place-fits}
 use borrow.Author.Needs.{needs}
 use Rattle.terminal.proofs.hm_check_book.Statement.{statement}
@@ -16,22 +13,22 @@ check-book-requires c κs = search needs
 enum-known-number : tie.Need-enum-known-number
 enum-known-number c = search needs
 
-refusal : (c : tie.After-known-told)
-    → let a = c .before .before .before .before .before .args in
-    refused (c .before .number .given .0 .0) (c .before .number .given .0 .1 .0) ≡ bookChecked (a .book .now)
-refusal c = ap bookPaper (sym (c .before .number .given .1)) ∙ c .before .before .before .check-book .ensures
-
 status-requires : tie.Need-status-requires
-status-requires c κs = book-place-fits _ (checked _) (refusal c)
+status-requires c κs =
+    book-place-fits _ (checked _)
+    (met bookPaper (c .before .number .given .1) (c .before .before .before .check-book .ensures))
 
 enum-told : tie.Need-enum-told
 enum-told c = search needs
 
 returns : tie.Need-returns
-returns c = told-refused (refusal (c .before)) (c .status .ensures)
+returns c =
+    told-refused (met bookPaper (c .before .before .number .given .1)
+    (c .before .before .before .before .check-book .ensures))
+    (c .status .ensures)
 
 returns-2 : tie.Need-returns-2
-returns-2 c = told-given (ap bookPaper (sym (c .enum-told .given .1)) ∙ c .before .before .check-book .ensures)
+returns-2 c = told-given (met bookPaper (c .enum-told .given .1) (c .before .before .check-book .ensures))
 
 pub hm-check-book-spec : {M : Type 1} → statement M
 hm-check-book-spec =
