@@ -12,12 +12,14 @@ use Rattle.rules.specs.Refusals.{Answer, given, andThen}
 use Rattle.rules.specs.Verdict.{Verdict, Judged}
 use Rattle.rules.specs.Book.{Checked, sound, brokenAt, checkBook, onSound}
 use Rattle.rules.specs.Single.{Plan, judgeItems}
+use Rattle.rules.specs.Staged.{StagedPlan, judgeStages}
 use Rattle.rules.specs.Sequential.{SequentialPlan, judgeSequence}
 use Rattle.rules.specs.Variables.{VariablesPlan, judgeReadings}
-use Rattle.rules.specs.Entries.{Asked, judgedOn, judgeSingle, singlePlan, sequentialPlan, variablesPlan}
-use Rattle.rules.specs.Entries.{singleSample, sequentialSample, variablesSample}
-use Rattle.rules.proofs.Demands.Two.{single-plan-given}
-use Rattle.rules.proofs.GivenPlans.{single-given, sequential-given, variables-given}
+use Rattle.rules.specs.Entries.{Asked, judgedOn, judgeSingle, judgeStaged, singlePlan, stagedPlan, sequentialPlan}
+use Rattle.rules.specs.Entries.{variablesPlan}
+use Rattle.rules.specs.Entries.{singleSample, stagedSample, sequentialSample, variablesSample}
+use Rattle.rules.proofs.Demands.Two.{single-plan-given, staged-plan-given}
+use Rattle.rules.proofs.GivenPlans.{single-given, staged-given, sequential-given, variables-given}
 
 -- the verdict on the plan that was given, with the plan
 pub judged : {P Outcome : Type 0} (plan : Answer P) (judge : P → Answer Outcome) (p : P) (a : Answer Outcome)
@@ -46,6 +48,19 @@ module _ (q : Asked) (book sample : List ℕ) where
       ≡ onSound (checkBook book) (andThen (judgeSingle q book sample) close)
   unfolding judgeSingle singlePlan
   single-checked close = checked (checkBook book) _ _ close
+
+  pub staged-sample : (p : StagedPlan) → stagedPlan q book ≡ given p
+      → stagedSample (q .column) p sample ≡ judgeStages (q .column) p sample
+  unfolding stagedSample
+  staged-sample p h =
+      let lot = staged-plan-given q book p .0 h .lot in
+      rw (le-ltb 25 (q .column) (omega (arith, lot .column)), staged-given q book p h .1)
+
+  pub staged-checked : {C : Type 0} (close : Judged StagedPlan Verdict → Answer C)
+      → andThen (judgeStaged q book sample) close
+      ≡ onSound (checkBook book) (andThen (judgeStaged q book sample) close)
+  unfolding judgeStaged stagedPlan
+  staged-checked close = checked (checkBook book) _ _ close
 
   pub sequential-sample : (p : SequentialPlan) → sequentialPlan q book ≡ given p
       → sequentialSample p sample ≡ judgeSequence p sample

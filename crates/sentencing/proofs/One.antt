@@ -5,12 +5,17 @@ use mathlib.Core.Path.{_≡_, refl, sym, ap, _∙_}
 use Rattle.rules.specs.Refusals.{Answer, refused, given}
 use Rattle.rules.specs.Verdict as verdicts
 use Rattle.rules.specs.Single.{Plan}
+use Rattle.rules.specs.Staged as stages
 use Rattle.rules.specs.Sequential as sequences
 use Rattle.rules.specs.Variables as gauges
 use Rattle.rules.specs.Severity as severity
 use Rattle.rules.specs.Entries.{Closed}
 use Rattle.plans.specs.declared.SinglePlan.{SinglePlan}
 use Rattle.samples.specs.declared.Verdict.{Verdict}
+use Rattle.samples.specs.declared.StagedPlan.{StagedPlan}
+use Rattle.samples.specs.declared.SampleAnswer.{SampleAnswer}
+use Rattle.samples.specs.declared.SampleAnswer.the-variants as sample
+use Rattle.samples.specs.Paper.{stagedPaper}
 use Rattle.severity.specs.declared.Record.{Record}
 use Rattle.sentencing.specs.declared.SingleJudged.{SingleJudged}
 use Rattle.sentencing.specs.declared.SingleAnswer.{SingleAnswer}
@@ -21,7 +26,12 @@ use Rattle.sentencing.specs.declared.SequentialAnswer.{SequentialAnswer}
 use Rattle.sentencing.specs.declared.SequentialAnswer.the-variants as sequential
 use Rattle.sentencing.specs.declared.VariablesAnswer.{VariablesAnswer}
 use Rattle.sentencing.specs.declared.VariablesAnswer.the-variants as variables
+use Rattle.sentencing.specs.declared.StagedJudged.{StagedJudged}
+use Rattle.sentencing.specs.declared.StagedClosing.{StagedClosing}
+use Rattle.sentencing.specs.declared.StagedClosing.the-variants as staged-closing
+use Rattle.sentencing.specs.declared.StagedClosed.{StagedClosed}
 use Rattle.sentencing.specs.Paper.{singlePaper, closedPaper, sequentialPaper, variablesPaper}
+use Rattle.sentencing.specs.Paper.{stagedAnswer, stagedJudged, closingAnswer, stagedClosed}
 
 told : {A B : Type 0} (paper : A → B) (back : B → A) → ((a : A) → back (paper a) ≡ a) → (a b : A) → paper a ≡ paper b
     → a ≡ b
@@ -112,3 +122,42 @@ variables-one = told variablesPaper variablesBack back
     back : (a : VariablesAnswer) → variablesBack (variablesPaper a) ≡ a
     back (variables.Refused n p) = refl
     back (variables.Given j) = refl
+
+abbrev stagedBack : stages.StagedPlan → StagedPlan
+stagedBack p = record { stages = p .stages; sizes = p .sizes; acs = p .acs; res = p .res }
+
+sampleBack : Answer (verdicts.Judged stages.StagedPlan verdicts.Verdict) → SampleAnswer
+sampleBack (refused n p) = sample.Refused n p
+sampleBack (given j) = sample.Given (verdictBack (j .verdict))
+
+-- of judge_staged: the answer, and the plan beside it
+pub staged-one : (a b : StagedJudged) → stagedJudged a ≡ stagedJudged b → a ≡ b
+unfolding sampleBack
+staged-one = told stagedJudged (λ b. record { answer = sampleBack (b .answer); plan = stagedBack (b .plan) }) back
+  where
+    same : (x : SampleAnswer) (p : stages.StagedPlan) → sampleBack (stagedAnswer x p) ≡ x
+    same (sample.Refused n q) p = refl
+    same (sample.Given v) p = refl
+
+    back : (a : StagedJudged)
+        → record { answer = sampleBack (stagedJudged a .answer); plan = stagedBack (stagedJudged a .plan) } ≡ a
+    back a = ap (λ (x : SampleAnswer). record { answer = x; plan = a .plan }) (same (a .answer) (stagedPaper (a .plan)))
+
+closingBack : Answer (Closed stages.StagedPlan) → StagedClosing
+closingBack (refused n p) = staged-closing.Refused n p
+closingBack (given c) = staged-closing.Given (verdictBack (c .judged .verdict)) (recordBack (c .recordAfter))
+
+-- of close_staged
+pub staged-closed-one : (a b : StagedClosed) → stagedClosed a ≡ stagedClosed b → a ≡ b
+unfolding closingBack
+staged-closed-one =
+    told stagedClosed (λ b. record { answer = closingBack (b .answer); plan = stagedBack (b .plan) }) back
+  where
+    same : (x : StagedClosing) (p : stages.StagedPlan) → closingBack (closingAnswer x p) ≡ x
+    same (staged-closing.Refused n q) p = refl
+    same (staged-closing.Given v r) p = refl
+
+    back : (a : StagedClosed)
+        → record { answer = closingBack (stagedClosed a .answer); plan = stagedBack (stagedClosed a .plan) } ≡ a
+    back a =
+        ap (λ (x : StagedClosing). record { answer = x; plan = a .plan }) (same (a .answer) (stagedPaper (a .plan)))

@@ -1,33 +1,47 @@
 // What the bench calls: which plan, does the lot pass, what next.
 ghost use mathlib.Core.Path.{_≡_};
 ghost use mathlib.Core.Bool.{false, _&&_};
+ghost use Prim.Native.Nat.{_≤_, _<_};
 ghost use lib.Dec.{ltb};
 ghost use Rattle.rules.specs.Refusals.{refused, andThen};
 ghost use Rattle.rules.specs.Codes.{countsItems};
+ghost use Rattle.rules.specs.Staged.{stagesOf, totalSize};
 ghost use Rattle.rules.specs.Book.{checkBook, onSound};
 ghost use Rattle.rules.specs.Entries.{eventFor, singleCounts, totalOn, judgeTotal, closeTotal};
-ghost use Rattle.rules.specs.Entries.{singlePlan, sequentialPlan, variablesPlan};
-ghost use Rattle.rules.specs.Entries.{judgeSingle, judgeSequential, judgeVariables, closeSingle};
+ghost use Rattle.rules.specs.Entries.{singlePlan, stagedPlan, sequentialPlan, variablesPlan};
+ghost use Rattle.rules.specs.Entries.{judgeSingle, judgeStaged, judgeSequential, judgeVariables};
+ghost use Rattle.rules.specs.Entries.{closeSingle, closeStaged};
 ghost use Rattle.plans.specs.Paper.{asked, planPaper, paperOf};
+ghost use Rattle.samples.specs.Paper.{stagedPaper, paperOf as samplePaper};
+ghost use Rattle.book.specs.Paper.{stagedPaper as foundPaper};
 ghost use Rattle.severity.specs.Paper.{paperLot, paperEvent, paperRecord};
 ghost use Rattle.sentencing.specs.Paper.{offered, counting, judgedPaper, singlePaper, closedPaper, closesSingle};
 ghost use Rattle.sentencing.specs.Paper.{refusalPaper, sequentialPlanned, sequentialPaper};
 ghost use Rattle.sentencing.specs.Paper.{variablesPlanned, variablesPaper};
+ghost use Rattle.sentencing.specs.Paper.{noStages, beside, itself, plannedPaper, stagesFound, withinLot, verdictOn};
+ghost use Rattle.sentencing.specs.Paper.{judgedPlan, stagedJudged, closedPlan, stagedClosed, closesStaged};
 use book::BookAnswer;
 use book::ReducedAnswer;
+use book::StagedFound;
+pub use book::check_book;
 use gauge::Gauged;
 use gauge::ReadingsVerdict;
 use gauge::VariablesPlan;
+pub use gauge::screen;
 use plans::LetterAnswer;
 use plans::PlanAnswer;
 use plans::SinglePlan;
 use samples::SampleAnswer;
 use samples::SequentialPlan;
+use samples::StagedPlan;
 use samples::Verdict;
 use severity::Event;
 use severity::Origin;
 use severity::Record;
 use severity::Stepped;
+pub use severity::close_lot;
+pub use severity::list_severities;
+pub use severity::next;
 
 // A lot judged on a single plan.
 pub struct SingleJudged {
@@ -403,4 +417,225 @@ pub fn judge_variables(
             }),
         },
     }
+}
+
+// A lot judged on a staged plan: the verdict, and beside it the plan, all of whose places are 0 beside a refusal.
+pub struct StagedJudged {
+    pub answer: SampleAnswer,
+    pub plan: StagedPlan,
+}
+
+enum Planned {
+    Refused(u8, usize),
+    Given,
+}
+
+struct StagedPlanned {
+    answer: Planned,
+    plan: StagedPlan,
+}
+
+fn no_stages() -> StagedPlan
+    ensures { λ r. ⌜ stagedPaper r ≡ noStages ⌝ }
+{
+    StagedPlan {
+        stages: 0,
+        sizes: [0u16; 7],
+        acs: [0u16; 7],
+        res: [0u16; 7],
+    }
+}
+
+fn wide(x: u16) -> u64
+    ensures { λ r. ⌜ (r ≡ x) × (r < 65536) ⌝ }
+{
+    x as u64
+}
+
+// The items of all stages.
+fn total_size(plan: StagedPlan) -> u64
+    requires { ⌜ plan .stages ≤ 7 ⌝ }
+    ensures { λ r. ⌜ r ≡ totalSize (stagesOf (stagedPaper plan)) ⌝ }
+{
+    let stages = plan.stages as usize;
+    let mut i = 0;
+    let mut total = 0;
+    while i < stages {
+        total += wide(plan.sizes[i]);
+        i += 1;
+    }
+    total
+}
+
+fn unplanned(number: u8, place: usize) -> StagedPlanned
+    ensures { λ r. ⌜ plannedPaper r ≡ beside itself (refused number place) ⌝ }
+{
+    StagedPlanned {
+        answer: Planned::Refused(number, place),
+        plan: no_stages(),
+    }
+}
+
+// A staged plan that was looked up, where its total is not above the lot.
+fn within_lot(size: u32, found: StagedFound) -> StagedPlanned
+    requires { ⌜ stagesFound found ≤ 7 ⌝ }
+    ensures { λ r. ⌜ plannedPaper r ≡ beside itself (andThen (foundPaper found .answer) (withinLot size)) ⌝ }
+{
+    let answer = found.answer;
+    match answer {
+        book::StagedAnswer::Refused(number, place) => unplanned(number, place),
+        book::StagedAnswer::Given(stages) => {
+            let sizes = found.sizes;
+            let acs = found.acs;
+            let res = found.res;
+            let plan = StagedPlan {
+                stages: stages as u8,
+                sizes,
+                acs,
+                res,
+            };
+            if (size as u64) < total_size(plan) {
+                return unplanned(6, 0);
+            }
+            StagedPlanned {
+                answer: Planned::Given,
+                plan,
+            }
+        }
+    }
+}
+
+fn staged_plan(size: u32, level: u32, column: u32, severity: u32, book: &[u8]) -> StagedPlanned
+    ensures { λ r. ⌜ plannedPaper r
+        ≡ beside itself (stagedPlan (asked severity size level column) (now (book .entry))) ⌝ }
+{
+    match plans::asked_letter(severity, size, level, column) {
+        LetterAnswer::Refused(number, place) => {
+            let first = first_refusal(book, number, place);
+            unplanned(first.number, first.place)
+        }
+        LetterAnswer::Given(letter) => {
+            let found = book::find_staged(book, severity, letter as u32, column);
+            within_lot(size, found)
+        }
+    }
+}
+
+fn unjudged(number: u8, place: usize) -> StagedJudged
+    ensures { λ r. ⌜ stagedJudged r ≡ beside judgedPlan (refused number place) ⌝ }
+{
+    StagedJudged {
+        answer: SampleAnswer::Refused(number, place),
+        plan: no_stages(),
+    }
+}
+
+// The verdict on a staged plan, with the plan.
+fn judged_on(plan: StagedPlan, answer: SampleAnswer) -> StagedJudged
+    ensures { λ r. ⌜ stagedJudged r ≡ beside judgedPlan (verdictOn (stagedPaper plan) (samplePaper answer)) ⌝ }
+{
+    match answer {
+        SampleAnswer::Refused(number, place) => unjudged(number, place),
+        SampleAnswer::Given(verdict) => StagedJudged {
+            answer: SampleAnswer::Given(verdict),
+            plan,
+        },
+    }
+}
+
+// The verdict on a staged sample, with its plan.
+pub fn judge_staged(
+    size: u32,
+    level: u32,
+    column: u32,
+    severity: u32,
+    book: &[u8],
+    sample: &[u8],
+) -> StagedJudged
+    ensures { λ r. ⌜ stagedJudged r
+        ≡ beside judgedPlan
+        (judgeStaged (asked severity size level column) (now (book .entry)) (now (sample .entry))) ⌝ }
+{
+    let planned = staged_plan(size, level, column, severity, book);
+    let answer = planned.answer;
+    let plan = planned.plan;
+    match answer {
+        Planned::Refused(number, place) => unjudged(number, place),
+        Planned::Given => judged_on(plan, samples::staged_sample(column, plan, sample)),
+    }
+}
+
+pub enum StagedClosing {
+    Refused(u8, usize),
+    Given {
+        verdict: Verdict,
+        record_after: Record,
+    },
+}
+
+// A staged lot closed: the verdict with the next record, and beside it the plan as of a lot judged.
+pub struct StagedClosed {
+    pub answer: StagedClosing,
+    pub plan: StagedPlan,
+}
+
+fn unclosed(number: u8, place: usize) -> StagedClosed
+    ensures { λ r. ⌜ stagedClosed r ≡ beside closedPlan (refused number place) ⌝ }
+{
+    StagedClosed {
+        answer: StagedClosing::Refused(number, place),
+        plan: no_stages(),
+    }
+}
+
+// A lot that was judged on a staged plan is taken into its record.
+fn take_staged(old: Record, again: bool, judged: StagedJudged) -> StagedClosed
+    ensures { λ r. ⌜ stagedClosed r
+        ≡ beside closedPlan (andThen (stagedJudged judged .answer) (closesStaged (paperRecord old) again)) ⌝ }
+{
+    let answer = judged.answer;
+    let plan = judged.plan;
+    match answer {
+        SampleAnswer::Refused(number, place) => unclosed(number, place),
+        SampleAnswer::Given(verdict) => {
+            let counts = severity::staged_counts(
+                old.severity,
+                verdict.accepted,
+                verdict.stage as u32,
+                verdict.stages as u32,
+            );
+            match severity::step(old, event_for(again, counts)) {
+                Stepped::Refused(number, place) => unclosed(number, place),
+                Stepped::Given(new) => StagedClosed {
+                    answer: StagedClosing::Given {
+                        verdict,
+                        record_after: new,
+                    },
+                    plan,
+                },
+            }
+        }
+    }
+}
+
+// A lot closed from a staged sample.
+pub fn close_staged(
+    old: Record,
+    again: bool,
+    size: u32,
+    level: u32,
+    column: u32,
+    book: &[u8],
+    sample: &[u8],
+) -> StagedClosed
+    ensures { λ r. ⌜ stagedClosed r
+        ≡ beside closedPlan
+        (closeStaged (paperRecord old) (offered again size level column) (now (book .entry)) (now (sample .entry))) ⌝ }
+{
+    if severity::in_range(old) {
+        let judged = judge_staged(size, level, column, old.severity as u32, book, sample);
+        return take_staged(old, again, judged);
+    }
+    let first = first_refusal(book, 1, 0);
+    unclosed(first.number, first.place)
 }
