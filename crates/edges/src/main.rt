@@ -1,0 +1,296 @@
+// Every case of document 01's 'Worked at the edges' run through the public entries, each printed with its answer.
+// (lotlog's listing is run by the program lotlog.)
+use libc::STDOUT_FILENO;
+use plans::LetterAnswer;
+use plans::PlanAnswer;
+use samples::SampleAnswer;
+use sentencing::SequentialAnswer;
+use sentencing::VariablesAnswer;
+use severity::Listed;
+
+// Letters by their codes.
+const NAMES: [u8; 17] = *b"ABCDEFGHJKLMNPQRS";
+
+// A bench without a book lends four empty sections.
+const NO_BOOK: [u8; 8] = [0; 8];
+
+// Under normal inspection and letter L: at column 10 five stages of 3 and a sequential plan, at columns 0 to 2
+// variables plans of 3 readings with K 4,000, 3,500 and 3,501.
+const BOOK: [u8; 92] = [
+    0,
+    0,
+    1,
+    0,
+    0,
+    0,
+    10,
+    0,
+    10,
+    0,
+    5,
+    0,
+    3,
+    0,
+    3,
+    0,
+    3,
+    0,
+    3,
+    0,
+    3,
+    0,
+    255,
+    255,
+    2,
+    0,
+    0,
+    0,
+    3,
+    0,
+    0,
+    0,
+    3,
+    0,
+    1,
+    0,
+    3,
+    0,
+    3,
+    0,
+    4,
+    0,
+    1,
+    0,
+    0,
+    0,
+    10,
+    0,
+    10,
+    0,
+    214,
+    6,
+    199,
+    8,
+    98,
+    37,
+    98,
+    0,
+    9,
+    0,
+    3,
+    0,
+    0,
+    0,
+    10,
+    0,
+    0,
+    0,
+    3,
+    0,
+    160,
+    15,
+    0,
+    0,
+    10,
+    0,
+    1,
+    0,
+    3,
+    0,
+    172,
+    13,
+    0,
+    0,
+    10,
+    0,
+    2,
+    0,
+    3,
+    0,
+    173,
+    13,
+];
+
+fn say(text: &[u8]) {
+    io::write_all(STDOUT_FILENO, text);
+}
+
+fn say_number(n: u64) {
+    io::print_decimal(STDOUT_FILENO, n);
+}
+
+fn wide(x: u8) -> u64 {
+    x as u64
+}
+
+fn say_letter(letter: u8) {
+    let at = letter as usize;
+    if at < 17 {
+        let name = [NAMES[at]];
+        say(&name);
+    }
+}
+
+fn say_refusal(number: u8, place: usize) {
+    say(b"refused ");
+    say_number(number as u64);
+    say(b" at ");
+    say_number(place as u64);
+    say(b"\n");
+}
+
+fn letter(case: &[u8], size: u32, level: u32) {
+    say(case);
+    match plans::letter(size, level) {
+        LetterAnswer::Refused(number, place) => say_refusal(number, place),
+        LetterAnswer::Given(code) => {
+            say_letter(code);
+            say(b"\n");
+        }
+    }
+}
+
+fn plan(case: &[u8], size: u32, level: u32, column: u32, severity: u32) {
+    say(case);
+    match sentencing::single_plan(size, level, column, severity, &NO_BOOK) {
+        PlanAnswer::Refused(number, place) => say_refusal(number, place),
+        PlanAnswer::Given(p) => {
+            say_letter(p.letter);
+            say(b", ");
+            say_number(p.n as u64);
+            say(b", Ac ");
+            say_number(p.ac as u64);
+            say(b"\n");
+        }
+    }
+}
+
+fn say_verdict(accepted: bool, used: u64) {
+    if accepted {
+        say(b"accepts at ");
+    } else {
+        say(b"rejects at ");
+    }
+    say_number(used);
+    say(b"\n");
+}
+
+fn sequential(case: &[u8], sample: &[u8]) {
+    say(case);
+    match sentencing::judge_sequential(10000, 5, 10, 0, &BOOK, sample) {
+        SequentialAnswer::Refused(number, place) => say_refusal(number, place),
+        SequentialAnswer::Given(j) => say_verdict(j.verdict.accepted, j.verdict.used as u64),
+    }
+}
+
+fn staged(case: &[u8], sample: &[u8]) {
+    say(case);
+    let judged = sentencing::judge_staged(10000, 5, 10, 0, &BOOK, sample);
+    let answer = judged.answer;
+    match answer {
+        SampleAnswer::Refused(number, place) => say_refusal(number, place),
+        SampleAnswer::Given(v) => say_verdict(v.accepted, v.used as u64),
+    }
+}
+
+fn variables(case: &[u8], column: u32, limit: i32, readings: &[u8]) {
+    say(case);
+    match sentencing::judge_variables(true, 10000, 5, column, 0, &BOOK, limit, readings) {
+        VariablesAnswer::Refused(number, place) => say_refusal(number, place),
+        VariablesAnswer::Given(j) => say_verdict(j.verdict.accepted, j.verdict.used as u64),
+    }
+}
+
+// The severity after the last byte.
+fn history(case: &[u8], bytes: &[u8]) {
+    say(case);
+    let mut out = [0u8; 16];
+    match severity::list_severities(bytes, &mut out) {
+        Listed::Refused(number, place) => say_refusal(number, place),
+        Listed::Given(n) => {
+            if 0 < n {
+                if n <= 16 {
+                    say_number(wide(out[n - 1]));
+                    say(b"\n");
+                }
+            }
+        }
+    }
+}
+
+fn letters() {
+    letter(b"size 8, III: ", 8, 6);
+    letter(b"size 9, III: ", 9, 6);
+    letter(b"size 500, II: ", 500, 5);
+    letter(b"size 501, II: ", 501, 5);
+}
+
+fn single_plans() {
+    plan(b"normal L, 0.65: ", 10000, 5, 9, 0);
+    plan(b"normal K, 1.5: ", 3200, 5, 11, 0);
+    plan(b"tightened K, 1.5: ", 3200, 5, 11, 1);
+    plan(b"normal R, 0.015: ", 500001, 6, 1, 0);
+    plan(b"tightened R, 0.025: ", 500001, 6, 2, 1);
+    plan(b"normal A, 10: ", 8, 5, 15, 0);
+    plan(b"size 10, II, 0.10: ", 10, 5, 5, 0);
+}
+
+fn sequential_samples() {
+    let clean = [0u8; 38];
+    sequential(b"19 clean items: ", &clean);
+    sequential(b"18 clean items: ", &clean[..36]);
+    let bad = [1u8, 0, 1, 0, 1, 0];
+    sequential(b"three bad items: ", &bad);
+    let mut last = [0u8; 196];
+    last[36] = 1;
+    last[56] = 1;
+    last[78] = 1;
+    last[98] = 1;
+    last[120] = 1;
+    last[140] = 1;
+    last[160] = 1;
+    last[182] = 1;
+    last[194] = 1;
+    sequential(b"9 bad of 98: ", &last);
+    last[0] = 1;
+    sequential(b"10 bad of 98: ", &last);
+}
+
+fn staged_samples() {
+    let clean = [0u8; 12];
+    staged(b"six clean items in stages of 3: ", &clean);
+    let mut five = [0u8; 30];
+    five[0] = 1;
+    five[6] = 1;
+    five[24] = 1;
+    staged(b"totals 1,2,2,2,3 in stages of 3: ", &five);
+}
+
+fn variables_samples() {
+    let spread = [10u8, 0, 12, 0, 14, 0];
+    variables(b"10, 12, 14 under 20, K 4,000: ", 0, 20, &spread);
+    variables(b"10, 12, 14 under 19, K 3,500: ", 1, 19, &spread);
+    variables(b"10, 12, 14 under 19, K 3,501: ", 2, 19, &spread);
+    variables(b"10, 12, 14 under 11, K 4,000: ", 0, 11, &spread);
+    let equal = [20u8, 0, 20, 0, 20, 0];
+    variables(b"20, 20, 20 under 20, K 4,000: ", 0, 20, &equal);
+}
+
+fn histories() {
+    let close = [3u8, 0, 0, 0, 3];
+    history(b"3,0,0,0,3 ends in severity ", &close);
+    let far = [3u8, 0, 0, 0, 0, 3];
+    history(b"3,0,0,0,0,3 ends in severity ", &far);
+    let steady = [5u8, 7, 0, 0, 0, 0, 0, 0, 0, 0, 0, 0];
+    history(b"5,7 and ten 0 end in severity ", &steady);
+    history(b"5,7 and nine 0 end in severity ", &steady[..11]);
+}
+
+fn main() {
+    letters();
+    single_plans();
+    sequential_samples();
+    staged_samples();
+    variables_samples();
+    histories();
+}
