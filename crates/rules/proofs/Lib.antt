@@ -5,12 +5,14 @@ pub mod Bools
 pub mod Bounded
 pub mod Bytes
 pub mod Checks
+pub mod Decimals
 pub mod Deciding
 pub mod Demands
 pub mod Diff
 pub mod EntryLaws
 pub mod EventLaws
 pub mod Faults
+pub mod Feeding
 pub mod GivenPlans
 pub mod HeldPlans
 pub mod HeldStaged
@@ -18,6 +20,7 @@ pub mod HeldTests
 pub mod Histories
 pub mod Items
 pub mod Landing
+pub mod LineForms
 pub mod LookUp
 pub mod Numbers
 pub mod Parts

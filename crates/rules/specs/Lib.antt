@@ -17,4 +17,5 @@ pub mod Entries
 pub mod Ascii
 pub mod Runs
 pub mod Log
+pub mod Feeding
 pub mod Terminal

@@ -1,0 +1,45 @@
+-- Each promise of a public function admits one result, and one state of the memory that is lent.
+-- Assumes nothing.
+use Prim.Native.Nat.{ℕ}
+use mathlib.Core.Path.{_≡_, sym, ap, _∙_}
+use mathlib.Core.List.{List}
+use Rattle.rules.specs.Feeding.{Held}
+use Rattle.severity.specs.declared.Record.{Record}
+use Rattle.severity.proofs.OneResult.{record-one}
+use Rattle.lotlines.specs.declared.State.{State}
+use Rattle.lotlines.specs.declared.Fed.{Fed}
+use Rattle.lotlines.specs.Printing.{Puts}
+use Rattle.lotlines.specs.Paper.{paperHeld, Starts, Feeds}
+
+-- of header and finish
+pub puts-one : {at r q : ℕ} {text out last end : List ℕ} → Puts at text out last r → Puts at text out end q
+    → (last ≡ end) × (r ≡ q)
+puts-one a b = (a .stored ∙ sym (b .stored), a .next ∙ sym (b .next))
+
+state-one : (a b : State) → paperHeld a ≡ paperHeld b → a .length ≡ b .length → a .bytes ≡ b .bytes → a ≡ b
+state-one a b h l k =
+    ap (λ (r : Record). made r (a .line) (a .length) (a .bytes))
+    (record-one (a .supply) (b .supply) (ap (λ (s : Held). s .supply) h))
+    ∙ ap (λ (n : ℕ). made (b .supply) n (a .length) (a .bytes)) (ap (λ (s : Held). s .line) h)
+    ∙ ap (λ (n : ℕ). made (b .supply) (b .line) n (a .bytes)) l
+    ∙ ap (made (b .supply) (b .line) (b .length)) k
+  where
+    made : Record → ℕ → ℕ → List ℕ → State
+    made r line n bytes = record { supply = r; line = line; length = n; bytes = bytes }
+
+pub start-one : (a b : State) → Starts a → Starts b → a ≡ b
+start-one a b p q =
+    state-one a b (p .held ∙ sym (q .held)) (p .long ∙ sym (q .long)) (p .kept ∙ sym (q .kept))
+
+pub feed-one : {s : State} {piece out last end : List ℕ} (a b : Fed) → Feeds s piece out last a
+    → Feeds s piece out end b → (last ≡ end) × (a ≡ b)
+feed-one a b p q = (
+  puts-one (p .shown) (q .shown) .0,
+  ap (λ (s : State). answer s (a .taken) (a .written))
+      (state-one (a .state) (b .state) (p .held ∙ sym (q .held)) (p .long ∙ sym (q .long)) (p .kept ∙ sym (q .kept)))
+      ∙ ap (λ (n : ℕ). answer (b .state) n (a .written)) (p .taken ∙ sym (q .taken))
+      ∙ ap (answer (b .state) (b .taken)) (puts-one (p .shown) (q .shown) .1),
+)
+  where
+    answer : State → ℕ → ℕ → Fed
+    answer s taken written = record { state = s; taken = taken; written = written }

@@ -1,0 +1,51 @@
+use native.Mathlib.Omega.{arith}
+use Rattle.rules.proofs.Decimals.{decimal-within}
+use Rattle.lotlines.specs.Paper.{closedOf}
+use Rattle.lotlines.proofs.Printing.{then-put, put-as, lot-text}
+use Rattle.lotlines.proofs.put_lot.Statement.{statement}
+use Rattle.lotlines.proofs.put_lot.Tie as tie
+use Rattle.lotlines.proofs.put_lot.Reads as reads
+use Rattle.lotlines.proofs.put_lot.Lts as lts
+use Rattle.lotlines.proofs.put_after.Reads as put-after-reads
+use Rattle.lotlines.proofs.put_names.Reads as put-names-reads
+use Rattle.lotlines.proofs.put_number.Reads as put-number-reads
+use Rattle.lotlines.proofs.put_plan.Reads as put-plan-reads
+
+-- src/lib.rt:299:9
+put-number-requires : tie.Need-put-number-requires
+put-number-requires c κs =
+    let args = c .before .before .before .before .before .args in
+    omega (arith, decimal-within 19 (args .line) (omega arith))
+
+-- src/lib.rt:300:9
+put-names-requires : tie.Need-put-names-requires
+put-names-requires c κs =
+    let args = c .before .before .before .before .before .before .before .args in
+    omega (arith, decimal-within 19 (args .line) (omega arith))
+
+-- src/lib.rt:301:9
+put-plan-requires : tie.Need-put-plan-requires
+put-plan-requires c κs =
+    let args = c .before .before .before .before .before .before .before .before .before .args in
+    omega (arith, decimal-within 19 (args .line) (omega arith))
+
+-- src/lib.rt:302:5
+put-after-requires : tie.Need-put-after-requires
+put-after-requires c κs =
+    let args = c .before .before .before .before .before .before .before .before .before .before .before .args in
+    omega (arith, decimal-within 19 (args .line) (omega arith))
+
+-- src/lib.rt:292:1
+returns : tie.Need-returns
+returns c =
+    let args = c .before .before .before .before .before .before .before .before .before .before .before .before
+    .args in
+    let first = c .before .before .before .before .before .before .put-number .ensures in
+    let second = c .before .before .before .before .put-names .ensures in
+    put-as (lot-text (args .line) (args .used) (closedOf (args .closed))) (then-put (then-put (then-put first second)
+    (c .before .before .put-plan .ensures .0)) (c .put-after .ensures))
+
+pub put-lot-spec : {M : Type 1} → statement M
+put-lot-spec =
+    tie.close
+    (tie.spec put-number-requires put-names-requires put-plan-requires put-after-requires returns)
