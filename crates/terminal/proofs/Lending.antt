@@ -12,6 +12,7 @@ use lib.Ieee.{Float}
 use borrow.Author.Tests.{eqb-true, le-leb, lt-leb, eq-eqb, ne-eqb}
 use Rattle.rules.specs.Refusals.{Answer, refused, given}
 use Rattle.rules.specs.Single.{Plan}
+use Rattle.rules.specs.Staged.{StagedPlan}
 use Rattle.rules.specs.Severity.{Record, inRange}
 use Rattle.rules.specs.Screen.{Shown, mean, meanAndVariance}
 use Rattle.rules.specs.Terminal.{statusOf, recordBytes, flag, bytesOf, hasForm, outOfForm, recordIn}
@@ -22,6 +23,7 @@ use Rattle.rules.proofs.Bools.{and-left}
 use Rattle.rules.proofs.Terminal.{form-missing}
 use Rattle.severity.specs.Paper.{paperRecord}
 use Rattle.severity.specs.declared.Record as code
+use Rattle.sentencing.specs.Paper.{Beside, beside}
 use Rattle.terminal.specs.Lent.{PlanLeft, OutcomeLeft, ClosedLeft, NextLeft, ScreenLeft}
 
 module _ (bytes : List ℕ) where
@@ -92,6 +94,12 @@ next-length bytes byte {t} e =
 -- the case that the code meets is the definition's answer
 pub met : {R A : Type 0} (paper : R → Answer A) {r x : R} {a : Answer A} → r ≡ x → paper r ≡ a → paper x ≡ a
 met paper e f = ap paper (sym e) ∙ f
+
+-- the answer that stands beside a staged plan
+pub beside-answer : {A : Type 0} (planOf : A → StagedPlan) (r : Beside A) (a : Answer A) → r ≡ beside planOf a
+    → r .answer ≡ a
+beside-answer {A} planOf r (refused n p) e = ap (λ (b : Beside A). b .answer) e
+beside-answer {A} planOf r (given x) e = ap (λ (b : Beside A). b .answer) e
 
 -- What a refusal and an answer tell and leave.
 module _ {A : Type 0} {a : Answer A} where

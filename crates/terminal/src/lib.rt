@@ -6,8 +6,8 @@ ghost use Prim.Native.Nat.{_+_, _*_, _≤_};
 ghost use lib.ListN.{length};
 ghost use Rattle.rules.specs.Screen.{screen};
 ghost use Rattle.rules.specs.History.{ours};
-ghost use Rattle.rules.specs.Entries.{singlePlan, judgeSingle, judgeSequential, judgeVariables};
-ghost use Rattle.rules.specs.Entries.{next, closeSingle};
+ghost use Rattle.rules.specs.Entries.{singlePlan, judgeSingle, judgeStaged, judgeSequential, judgeVariables};
+ghost use Rattle.rules.specs.Entries.{next, closeSingle, closeStaged};
 ghost use Rattle.rules.specs.Terminal.{statusOf, recordBytes, flag, bytesOf, outOfForm, recordIn};
 ghost use Rattle.plans.specs.Paper.{asked};
 ghost use Rattle.severity.specs.Paper.{paperRecord};
@@ -17,9 +17,11 @@ ghost use Rattle.terminal.specs.Lent.{bookChecked, ScreenLeft};
 use book::BookAnswer;
 use gauge::Shown;
 use plans::PlanAnswer;
+use samples::SampleAnswer;
 use sentencing::SequentialAnswer;
 use sentencing::SingleAnswer;
 use sentencing::SingleClosing;
+use sentencing::StagedClosing;
 use sentencing::VariablesAnswer;
 use severity::Record;
 use severity::Stepped;
@@ -153,6 +155,35 @@ pub extern "C" fn hm_single(
     }
 }
 
+// The verdict on a staged sample.
+#[no_mangle]
+pub extern "C" fn hm_staged(
+    size: u32,
+    level: u32,
+    column: u32,
+    severity: u32,
+    book: &[u8],
+    sample: &[u8],
+    accepted: &mut u8,
+    used: &mut u16,
+) -> u32
+    ensures { λ r. ⌜ VerdictLeft
+        (judgeStaged (asked severity size level column) (now (book .entry)) (now (sample .entry))) r
+        (now (accepted .entry)) (now (accepted .exit))
+        (now (used .entry)) (now (used .exit)) ⌝ }
+{
+    let judged = sentencing::judge_staged(size, level, column, severity, book, sample);
+    let answer = judged.answer;
+    match answer {
+        SampleAnswer::Refused(number, place) => status(number, place),
+        SampleAnswer::Given(verdict) => {
+            *accepted = as_byte(verdict.accepted);
+            *used = narrow(verdict.used);
+            0
+        }
+    }
+}
+
 // The verdict on a sequential sample.
 #[no_mangle]
 pub extern "C" fn hm_sequential(
@@ -279,6 +310,43 @@ pub extern "C" fn hm_close_single(
             put_back(supply, closed.record_after);
             *accepted = as_byte(closed.judged.verdict.accepted);
             *used = narrow(closed.judged.verdict.used);
+            0
+        }
+    }
+}
+
+// A lot closed from a staged sample; `resubmitted` 0 is an original lot.
+#[no_mangle]
+pub extern "C" fn hm_close_staged(
+    supply: &mut [u8],
+    resubmitted: u32,
+    size: u32,
+    level: u32,
+    column: u32,
+    book: &[u8],
+    sample: &[u8],
+    accepted: &mut u8,
+    used: &mut u16,
+) -> u32
+    ensures { λ r. ⌜ ClosedLeft
+        (closeStaged (recordIn (now (supply .entry))) (offered (again resubmitted) size level column)
+        (now (book .entry)) (now (sample .entry))) r
+        (now (supply .entry)) (now (supply .exit))
+        (now (accepted .entry)) (now (accepted .exit))
+        (now (used .entry)) (now (used .exit)) ⌝ }
+{
+    let old = take_up(supply);
+    let closed = sentencing::close_staged(old, resubmitted != 0, size, level, column, book, sample);
+    let answer = closed.answer;
+    match answer {
+        StagedClosing::Refused(number, place) => status(number, place),
+        StagedClosing::Given {
+            verdict,
+            record_after,
+        } => {
+            put_back(supply, record_after);
+            *accepted = as_byte(verdict.accepted);
+            *used = narrow(verdict.used);
             0
         }
     }
