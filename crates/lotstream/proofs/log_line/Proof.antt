@@ -1,0 +1,81 @@
+use native.Mathlib.Omega.{arith}
+use mathlib.Core.Path.{refl, sym}
+use Rattle.lotstream.proofs.Room.{within-line, part-line}
+use Rattle.rules.specs.History.{ours}
+use Rattle.rules.proofs.Feeding.{some-taken, taken-within}
+use Rattle.lotlines.specs.Paper.{paperHeld}
+use borrow.Author.Needs.{needs}
+use Rattle.lotstream.proofs.log_line.Statement.{statement}
+use Rattle.lotstream.proofs.log_line.Tie as tie
+use Rattle.lotstream.proofs.log_line.Reads as reads
+use Rattle.lotstream.proofs.log_line.Lts as lts
+use Rattle.lotlines.proofs.feed.Reads as feed-reads
+use Rattle.lotstream.proofs.make_room.Reads as make-room-reads
+use Rattle.lotstream.proofs.put.Reads as put-reads
+
+-- src/lib.rt:48:9
+feed-requires : tie.Need-feed-requires
+feed-requires c κs = search needs
+
+-- src/lib.rt:51:39
+array-share-prefix-line : tie.Need-array-share-prefix-line
+array-share-prefix-line c = within-line (c .before .before .feed .ensures .shown) refl
+
+-- src/lib.rt:51:39
+slice-aggregate-put : tie.Need-slice-aggregate-put
+slice-aggregate-put c = sym (part-line (c .before .before .before .feed .ensures .shown) refl)
+
+-- src/lib.rt:51:9
+put-requires : tie.Need-put-requires
+put-requires c κs =
+    let shown = (c .before .before .before .feed .ensures .shown) in
+    omega (arith, shown .fits, part-line shown refl, c .before .before .before .before .before .before .before .pre .1)
+
+-- src/lib.rt:52:9
+make-room-requires : tie.Need-make-room-requires
+make-room-requires c κs =
+    let shown = (c .before .before .before .before .before .before .before .feed .ensures .shown) in
+    let kept = c .before .before .before .put .kept .0 in
+    omega (
+      arith,
+      kept,
+      shown .fits,
+      part-line shown refl,
+      c .before .before .before .put .ensures,
+      c .before .before
+          .before .before .before .before .before .before .before .before .before .pre .1,
+    )
+
+-- src/lib.rt:43:1
+same-length : tie.Need-same-length
+same-length c = search needs
+
+-- src/lib.rt:43:1
+returns : tie.Need-returns
+returns c =
+    let start = c .before .before .before .before .before .before .before .before .before .before .before .before in
+    let fed = c .before .before .before .before .before .before .before .before .feed .ensures in
+    let some = some-taken ours (paperHeld (start .args .state)) (start .args .piece .now) (start .pre .0) in
+    let within = taken-within ours (paperHeld (start .args .state)) (start .args .piece .now) in
+    let kept = c .before .before .before .before .put .kept .0 in
+    record {
+      some = omega (arith, fed .taken, some);
+      within = omega (arith, fed .taken, within);
+      room = omega (
+        arith,
+        kept,
+        c .make-room .ensures,
+      );
+    }
+
+pub log-line-spec : {M : Type 1} → statement M
+log-line-spec =
+    tie.close
+    (tie.spec
+    feed-requires
+    array-share-prefix-line
+    slice-aggregate-put
+    put-requires
+    make-room-requires
+    same-length
+    returns)
