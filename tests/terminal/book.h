@@ -1,0 +1,28 @@
+/* Plan books drawn at random, sound and damaged. */
+#ifndef BOOK_H
+#define BOOK_H
+
+#include "call.h"
+
+enum { SECTIONS = 4, MOST_ENTRIES = 256, STAGES = 7 };
+
+/* The bodies that a drawn book holds under the lot's own key, and which of the four there are. */
+struct plans {
+    bool there[SECTIONS];
+    unsigned reduced_n, reduced_ac;
+    unsigned stages, size[STAGES], ac[STAGES], re[STAGES];
+    unsigned ha, hr, g, nt, at;
+    unsigned n, k;
+};
+
+/* Draws a sound book for the call's lot; where it is sure, each section has an entry under the lot's key. */
+void draw_book(struct call *call, bool sure, struct plans *plans);
+
+/* Damages the book that was drawn last. */
+void damage_book(struct call *call);
+
+/* Appends a number to the call's book or sample. */
+void put_book(struct call *call, unsigned number);
+void put_item(struct call *call, unsigned number);
+
+#endif

@@ -1,0 +1,342 @@
+/* Calls drawn at random. See draw.h. */
+#include "draw.h"
+
+#include "book.h"
+#include "reference.h"
+
+#include <string.h>
+
+#define PICK(array) (array)[below(sizeof(array) / sizeof *(array))]
+
+enum { MOST_ITEM_COLUMN = 15, STOPPED = 3 };
+
+/* What a drawn sample is to be. */
+enum mood { ANY, GOOD, BAD };
+
+static uint64_t state = 1, case_seed;
+
+void draw_seed(uint64_t seed) {
+    state = seed != 0 ? seed : 1;
+}
+
+uint64_t draw_case_seed(void) {
+    return case_seed;
+}
+
+void draw_fixed(void) {
+    case_seed = 0;
+}
+
+static uint64_t draw(void) {
+    state ^= state << 13;
+    state ^= state >> 7;
+    state ^= state << 17;
+    return state * 0x2545f4914f6cdd1du;
+}
+
+uint32_t below(uint32_t n) {
+    return (uint32_t)((draw() >> 32) * n >> 32);
+}
+
+uint32_t between(uint32_t low, uint32_t high) {
+    return low + below(high - low + 1);
+}
+
+bool one_in(uint32_t n) {
+    return below(n) == 0;
+}
+
+void draw_bytes(uint8_t *bytes, size_t len) {
+    for (size_t i = 0; i < len; i += 8) {
+        uint64_t bits = draw();
+        memcpy(bytes + i, &bits, len - i < 8 ? len - i : 8);
+    }
+}
+
+/* ---- the lot */
+
+static uint32_t any_number(void) {
+    static const uint32_t odd[] = {0,   1,   2,     3,     4,     7,          26,         255,
+                                   256, 257, 65535, 65536, 65541, 0x7fffffff, 0x80000000, 0xffffffff};
+    return one_in(2) ? PICK(odd) : (uint32_t)(draw() >> 32) >> below(32);
+}
+
+static uint32_t draw_size(void) {
+    static const uint32_t edges[] = {2,    8,     9,     15,    16,    25,     26,     50,     51,     90,
+                                     91,   150,   151,   280,   281,   500,    501,    1200,   1201,   3200,
+                                     3201, 10000, 10001, 35000, 35001, 150000, 150001, 500000, 500001, 0xffffffff};
+    if (one_in(40))
+        return any_number();
+    if (one_in(30))
+        return PICK(edges);
+    if (one_in(3))
+        return edges[below(16)];
+    return one_in(4) ? between(2, 500) : between(2, 60);
+}
+
+static void draw_lot(struct call *c) {
+    bool low_columns = c->function == SEQUENTIAL || c->function == UPPER || c->function == LOWER;
+    c->size = draw_size();
+    c->level = one_in(60) ? any_number() : below(7);
+    c->column = one_in(60) ? any_number() : low_columns && !one_in(20) ? below(16) : below(26);
+    c->severity = one_in(60) ? any_number() : one_in(40) ? STOPPED : below(3);
+}
+
+/* ---- the record */
+
+/* A record in range of the given severity, often one lot from a change. */
+static void draw_sound_record(struct call *c, unsigned severity) {
+    memset(c->record, 0, sizeof c->record);
+    c->record_len = 7;
+    c->record[0] = (uint8_t)severity;
+    c->record[1] = (uint8_t)(severity != 0 ? 0 : one_in(2) ? between(24, 30) : below(31));
+    c->record[2] = (uint8_t)(severity != 1 ? 0 : one_in(2) ? 4 : below(5));
+    c->record[3] = (uint8_t)(severity != 1 ? 0 : one_in(2) ? 4 : below(5));
+    c->record[4] = (uint8_t)(severity != 0 || one_in(3) ? 0 : 1u << below(5));
+    c->record[5] = (uint8_t)!one_in(3);
+    c->record[6] = (uint8_t)!one_in(3);
+}
+
+static void draw_record(struct call *c) {
+    static const uint8_t edges[] = {0, 1, 2, 3, 4, 5, 15, 16, 17, 24, 30, 31, 32, 33, 48, 64, 128, 255};
+    draw_sound_record(c, c->severity <= STOPPED ? c->severity : below(4));
+    if (c->severity > STOPPED || one_in(12))
+        c->record[below(7)] = PICK(edges);
+    if (one_in(60))
+        c->record_len = below(RECORD_ROOM + 1);
+}
+
+/* ---- samples of items */
+
+/* Appends n items that come to the total, as near as items can, and gives what they come to. */
+static unsigned put_items(struct call *c, unsigned n, unsigned total) {
+    unsigned most = c->column > MOST_ITEM_COLUMN ? 65535 : 1, wanted = total;
+    for (unsigned left = n; left > 0; left--) {
+        unsigned item = most == 1 ? below(left) < total : below(total / left * 2 + 2);
+        if (left == 1 || item > total)
+            item = total;
+        if (item > most)
+            item = most;
+        put_item(c, item);
+        total -= item;
+    }
+    return wanted - total;
+}
+
+/* A total near the acceptance number, and near that of the column before, which is some two thirds of it. */
+static unsigned total_near(unsigned ac, unsigned n, enum mood mood) {
+    if (mood == GOOD)
+        return one_in(16) ? ac : below(ac / 2 + 1);
+    if (mood == BAD)
+        return ac + 1 + below(2);
+    unsigned low = ac * 2 / 3;
+    return one_in(8) ? below(2 * n + 1) : between(low > 0 ? low - 1 : 0, ac + 1);
+}
+
+static void draw_single_sample(struct call *c, enum mood mood) {
+    uint8_t letter;
+    uint16_t n, ac;
+    if (ref_plan(c->size, c->level, c->column, c->severity, c->book, c->book_len, &letter, &n, &ac) == 0)
+        put_items(c, n, total_near(ac, n, mood));
+    else
+        put_items(c, below(20), below(3));
+}
+
+/* A running total at or beside one of the stage's two numbers. */
+static unsigned stage_goal(const struct plans *p, unsigned stage, enum mood mood) {
+    bool mark = p->ac[stage] == 65535;
+    unsigned goals[] = {mark ? 0 : p->ac[stage], mark ? 1 : p->ac[stage] + 1, p->re[stage] > 0 ? p->re[stage] - 1 : 0,
+                        p->re[stage]};
+    if (mood == GOOD)
+        return one_in(8) ? goals[1] : goals[0];
+    return mood == BAD ? goals[2 + below(2)] : goals[below(4)];
+}
+
+/* Ends with the stage that decides. */
+static void draw_staged_sample(struct call *c, const struct plans *p, enum mood mood) {
+    unsigned total = 0;
+    for (unsigned i = 0; i < p->stages; i++) {
+        unsigned goal = stage_goal(p, i, mood);
+        total += put_items(c, p->size[i], goal > total ? goal - total : 0);
+        if ((p->ac[i] != 65535 && total <= p->ac[i]) || total >= p->re[i])
+            return;
+    }
+}
+
+/* Ends with the item that decides. */
+static void draw_sequential_sample(struct call *c, const struct plans *p) {
+    static const unsigned rates[] = {0, 5000, 20000, 100000};
+    unsigned rate = one_in(2) ? PICK(rates) : p->g, total = 0;
+    for (unsigned n = 1; n <= p->nt; n++) {
+        unsigned item = below(100000) < rate;
+        put_item(c, item);
+        total += item;
+        unsigned line = p->g * n, count = 100000 * total;
+        if (count + 100 * p->ha <= line || count >= line + 100 * p->hr)
+            return;
+    }
+}
+
+/* An item that is not 0 or 1; some have 0 or 1 as their low byte. */
+static unsigned illegal_item(void) {
+    static const unsigned items[] = {2, 3, 255, 256, 257, 512, 32768, 65535};
+    return PICK(items);
+}
+
+static void set_item(struct call *c, size_t item, unsigned number) {
+    c->sample[2 * item] = (uint8_t)number;
+    c->sample[2 * item + 1] = (uint8_t)(number >> 8);
+}
+
+static void damage_sample(struct call *c) {
+    size_t items = c->sample_len / 2;
+    switch (below(8)) {
+    case 0:
+        c->sample_len -= items > 0 ? 2 : 0;
+        break;
+    case 1:
+        c->sample_len = below((uint32_t)c->sample_len + 1);
+        break;
+    case 2:
+        put_item(c, one_in(4) ? illegal_item() : below(2));
+        break;
+    case 3:
+        c->sample_len -= items > 0;
+        break;
+    case 4:
+        c->sample[c->sample_len++] = (uint8_t)below(256);
+        break;
+    case 5:
+        c->sample_len = 0;
+        break;
+    default:
+        if (items > 0)
+            set_item(c, below((uint32_t)items), illegal_item());
+        if (items > 0 && one_in(3))
+            c->sample_len -= between(1, 2);
+    }
+}
+
+static void draw_items(struct call *c, const struct plans *p, enum mood mood) {
+    c->sample_len = 0;
+    if (c->function == SINGLE || c->function == CLOSE_SINGLE)
+        draw_single_sample(c, mood);
+    else if (c->function != SEQUENTIAL && p->there[1])
+        draw_staged_sample(c, p, mood);
+    else if (c->function == SEQUENTIAL && p->there[2])
+        draw_sequential_sample(c, p);
+    else
+        put_items(c, below(20), below(3));
+}
+
+/* ---- readings and limits */
+
+static void put_reading(struct call *c, int reading) {
+    put_item(c, (unsigned)reading & 65535);
+}
+
+static int any_reading(int around, unsigned spread) {
+    int reading = around + (int)below(2 * spread + 1) - (int)spread;
+    return reading < -1000 ? -1000 : reading > 1000 ? 1000 : reading;
+}
+
+/* Readings a - d, a and a + d in such numbers that K is met exactly at the limit; then the limit may move by one. */
+static bool draw_exact_readings(struct call *c, unsigned n, unsigned k) {
+    int j = (int)between(1, 20), d = 4 * j, t = (int)(k / 250) * j, a = (int)below(401) - 200;
+    if (n % 2 == 0 || k % 250 != 0)
+        return false;
+    for (unsigned i = 0; i < n; i++)
+        put_reading(c, i == n / 2 ? a : i < n / 2 ? a - d : a + d);
+    c->limit = (c->function == UPPER ? a + t : a - t) + (one_in(3) ? (int)below(3) - 1 : 0);
+    return true;
+}
+
+static void draw_readings(struct call *c, unsigned n) {
+    static const unsigned spreads[] = {0, 1, 5, 50, 300, 2000};
+    unsigned spread = PICK(spreads);
+    int around = any_reading(0, 900), away = any_reading(0, spread * 4 + 2);
+    for (unsigned i = 0; i < n; i++)
+        put_reading(c, any_reading(around, spread));
+    c->limit = any_reading(around, 0) + (one_in(4) ? 0 : c->function == UPPER ? away : -away);
+    if (one_in(12))
+        c->limit = one_in(2) ? 1000 : -1000;
+}
+
+static void damage_readings(struct call *c) {
+    static const int readings[] = {1001, -1001, 32767, -32768, 1000, -1000, 1255, -1256};
+    static const int32_t limits[] = {1001, -1001, INT32_MAX, INT32_MIN, 65536, -65536, 66036, 1000, -1000};
+    if (one_in(3))
+        c->limit = one_in(4) ? (int32_t)(uint32_t)draw() : PICK(limits);
+    else if (one_in(2) && c->sample_len >= 2)
+        set_item(c, below((uint32_t)c->sample_len / 2), (unsigned)PICK(readings) & 65535);
+    else
+        damage_sample(c);
+}
+
+/* How many readings: the plan's, or what the screen takes and a little more. */
+static unsigned readings_for(const struct call *c, const struct plans *p) {
+    static const unsigned edges[] = {0, 1, 2, 49, 50, 51, 52, 100};
+    if (c->function == SCREEN)
+        return one_in(6) ? PICK(edges) : between(1, 50);
+    return p->there[3] ? p->n : below(20);
+}
+
+static void draw_gauged(struct call *c, const struct plans *p) {
+    unsigned n = readings_for(c, p);
+    c->sample_len = 0;
+    if (c->function == SCREEN || !one_in(2) || !draw_exact_readings(c, n, p->k))
+        draw_readings(c, n);
+    if (one_in(5))
+        damage_readings(c);
+}
+
+/* ---- a case */
+
+static enum function draw_function(void) {
+    static const uint8_t often[FUNCTIONS] = {
+        [PLAN] = 8, [SINGLE] = 12,       [STAGED] = 16,      [SEQUENTIAL] = 14, [UPPER] = 8, [LOWER] = 8,
+        [NEXT] = 6, [CLOSE_SINGLE] = 10, [CLOSE_STAGED] = 9, [CHECK_BOOK] = 6,  [SCREEN] = 3};
+    unsigned at = below(100), f = 0;
+    for (; at >= often[f]; f++)
+        at -= often[f];
+    return (enum function)f;
+}
+
+static void draw_sample(struct call *c, const struct plans *p) {
+    if (c->function == UPPER || c->function == LOWER || c->function == SCREEN) {
+        draw_gauged(c, p);
+        return;
+    }
+    draw_items(c, p, ANY);
+    if (one_in(5))
+        damage_sample(c);
+    if (one_in(25))
+        damage_sample(c);
+}
+
+void draw_case(struct call *c) {
+    struct plans plans;
+    case_seed = state;
+    c->function = draw_function();
+    draw_lot(c);
+    c->resubmitted = one_in(4) ? any_number() : 0;
+    c->event = one_in(20) ? any_number() : below(13);
+    draw_record(c);
+    draw_book(c, false, &plans);
+    draw_sample(c, &plans);
+    if (one_in(c->function == CHECK_BOOK ? 2 : 10))
+        damage_book(c);
+}
+
+void draw_next_lot(struct call *c, bool good) {
+    struct plans plans;
+    case_seed = state;
+    c->size = one_in(4) ? between(2, 500) : between(2, 60);
+    c->level = below(7);
+    c->column = below(26);
+    c->severity = c->record[0];
+    c->resubmitted = one_in(8);
+    draw_book(c, true, &plans);
+    c->first_stage = plans.size[0];
+    draw_items(c, &plans, good ? GOOD : BAD);
+}

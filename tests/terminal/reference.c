@@ -1,0 +1,886 @@
+/* A plain reading of document 01, section by section. See reference.h. */
+#include "reference.h"
+
+#include <stdbool.h>
+#include <string.h>
+
+enum { NORMAL, TIGHTENED, REDUCED, STOPPED };
+enum { ADD_3, ADD_2, SCORE_0, NOT_ACCEPTED, RESUBMITTED, STEADY, NOT_STEADY, PERMISSION, WITHDRAWN, CORRECTIVE };
+enum { MARK = 65535, MOST_STAGES = 7, MOST_BOOK = 32768, ITEMS_COLUMN = 15, LETTER_A = 0, LETTER_E = 4, LETTER_R = 15 };
+
+static unsigned number_at(const uint8_t *bytes, size_t at) {
+    return bytes[at] | (unsigned)bytes[at + 1] << 8;
+}
+
+/* ---- codes: Table 1 */
+
+struct band {
+    uint32_t up_to;
+    char letters[8];
+};
+
+static const struct band table_1[] = {
+    {8, "AAAAAAB"},     {15, "AAAAABC"},    {25, "AABBBCD"},     {50, "ABBCCDE"},     {90, "BBCCCEF"},
+    {150, "BBCDDFG"},   {280, "BCDEEGH"},   {500, "BCDEFHJ"},    {1200, "CCEFGJK"},   {3200, "CDEGHKL"},
+    {10000, "CDFGJLM"}, {35000, "CDFHKMN"}, {150000, "DEGJLNP"}, {500000, "DEGJMPQ"}, {UINT32_MAX, "DEHKNQR"},
+};
+
+/* The letters skip I and O. */
+static unsigned letter_code(char letter) {
+    return (unsigned)(letter - 'A' - (letter > 'I') - (letter > 'O'));
+}
+
+unsigned ref_letter(uint32_t size, uint32_t level) {
+    const struct band *band = table_1;
+    while (size > band->up_to)
+        band++;
+    return letter_code(band->letters[level]);
+}
+
+/* ---- single plans: the master tables */
+
+enum { UP = -1, DOWN = -2 };
+
+static const uint16_t table_sizes[] = {2, 3, 5, 8, 13, 20, 32, 50, 80, 125, 200, 315, 500, 800, 1250, 2000, 3150};
+
+/* A box is an acceptance number, UP or DOWN. */
+static int normal_box(unsigned letter, unsigned column) {
+    static const uint8_t ac[] = {1, 2, 3, 5, 7, 10, 14, 21, 30, 44};
+    unsigned s = letter + column;
+    if (s < 14)
+        return DOWN;
+    if (s == 14)
+        return 0;
+    if (s == 15)
+        return letter == LETTER_A ? DOWN : UP;
+    if (s == 16)
+        return letter == LETTER_R ? UP : DOWN;
+    if (s > 26 || (s > 24 && letter > LETTER_E))
+        return UP;
+    return ac[s - 17];
+}
+
+static int tightened_box(unsigned letter, unsigned column) {
+    static const uint8_t ac[] = {1, 2, 3, 5, 8, 12, 18, 27, 41};
+    unsigned s = letter + column;
+    if (s < 15)
+        return DOWN;
+    if (s == 15)
+        return 0;
+    if (s == 16)
+        return letter == LETTER_A ? DOWN : UP;
+    if (s == 17)
+        return DOWN;
+    if (s > 26 || (s > 24 && letter > LETTER_E))
+        return UP;
+    return ac[s - 18];
+}
+
+struct single_plan {
+    unsigned letter, n, ac;
+};
+
+static struct single_plan table_plan(unsigned letter, unsigned column, unsigned severity) {
+    int (*box_at)(unsigned, unsigned) = severity == NORMAL ? normal_box : tightened_box;
+    int box;
+    while ((box = box_at(letter, column)) < 0)
+        letter += box == UP ? -1u : 1u;
+    return (struct single_plan){letter, table_sizes[letter], (unsigned)box};
+}
+
+/* ---- the plan book: checking. A fault is a place in the book, or SOUND. */
+
+#define SOUND ((size_t)-1)
+
+struct stretch {
+    const uint8_t *bytes;
+    size_t len, at;
+};
+
+struct kind {
+    unsigned keys;
+    uint16_t most[3];
+    size_t (*check_body)(struct stretch *);
+};
+
+/* Takes the next number; its own place is the fault where it is out of range. */
+static size_t take(struct stretch *s, unsigned least, unsigned most, unsigned *number) {
+    *number = 0;
+    if (s->len - s->at < 2)
+        return s->len;
+    *number = number_at(s->bytes, s->at);
+    if (*number < least || *number > most)
+        return s->at;
+    s->at += 2;
+    return SOUND;
+}
+
+static size_t check_reduced(struct stretch *s) {
+    unsigned n, ac;
+    size_t fault = take(s, 1, 3150, &n);
+    return fault != SOUND ? fault : take(s, 0, 65534, &ac);
+}
+
+/* Takes Ac and Re of one stage; before holds those of the stage before (Ac MARK and Re 0 before the first). */
+static size_t check_stage(struct stretch *s, bool last, unsigned before[2]) {
+    unsigned ac, re;
+    bool after_number = before[0] != MARK;
+    size_t fault = take(s, after_number ? before[0] : 0, after_number || last ? MARK - 1 : MARK, &ac);
+    if (fault != SOUND)
+        return fault;
+    unsigned least = ac != MARK && ac + 1 > before[1] ? ac + 1 : before[1];
+    unsigned most = last ? ac + 1 : 65534;
+    if ((fault = take(s, least, most < 65534 ? most : 65534, &re)) != SOUND)
+        return fault;
+    before[0] = ac;
+    before[1] = re;
+    return SOUND;
+}
+
+static size_t check_staged(struct stretch *s) {
+    unsigned stages, size, before[2] = {MARK, 0};
+    size_t fault = take(s, 2, MOST_STAGES, &stages);
+    for (unsigned i = 0; fault == SOUND && i < stages; i++)
+        fault = take(s, 1, 2000, &size);
+    for (unsigned i = 0; fault == SOUND && i < stages; i++)
+        fault = check_stage(s, i + 1 == stages, before);
+    return fault;
+}
+
+/* floor(g nt - hA) <= At < ceiling(g nt + hR), in hundred-thousandths and with no negative division. */
+static bool curtailed_soundly(unsigned ha, unsigned hr, unsigned g, unsigned nt, unsigned at) {
+    int64_t line = (int64_t)g * nt, bound = (int64_t)at * 100000;
+    bool below = line - 100 * (int64_t)ha < bound + 100000;
+    bool above = bound < line + 100 * (int64_t)hr;
+    return below && above;
+}
+
+static size_t check_sequential(struct stretch *s) {
+    unsigned ha, hr, g, nt, at;
+    size_t fault, place;
+    if ((fault = take(s, 1, 65535, &ha)) != SOUND || (fault = take(s, 1, 65535, &hr)) != SOUND ||
+        (fault = take(s, 1, 60000, &g)) != SOUND || (fault = take(s, 1, 3150, &nt)) != SOUND)
+        return fault;
+    place = s->at;
+    if ((fault = take(s, 0, 65535, &at)) != SOUND)
+        return fault;
+    return curtailed_soundly(ha, hr, g, nt, at) ? SOUND : place;
+}
+
+static size_t check_variables(struct stretch *s) {
+    unsigned n, k;
+    size_t fault = take(s, 2, 50, &n);
+    return fault != SOUND ? fault : take(s, 1, 4000, &k);
+}
+
+enum { REDUCED_SINGLES, STAGED, SEQUENTIAL, VARIABLES, SECTIONS };
+
+static const struct kind kinds[SECTIONS] = {
+    {2, {15, 25}, check_reduced},
+    {3, {2, 15, 25}, check_staged},
+    {3, {2, 15, 15}, check_sequential},
+    {3, {2, 15, 15}, check_variables},
+};
+
+/* Negative, 0 or positive, as the key at a is before, equal to or after the key at b. */
+static int compare_keys(const uint8_t *bytes, unsigned keys, size_t a, size_t b) {
+    for (unsigned i = 0; i < keys; i++) {
+        int difference = (int)number_at(bytes, a + 2 * i) - (int)number_at(bytes, b + 2 * i);
+        if (difference != 0)
+            return difference;
+    }
+    return 0;
+}
+
+/* A key that is not whole cannot fail to rise: the number that it lacks is reported. */
+static size_t check_key(struct stretch *s, const struct kind *kind, size_t before) {
+    unsigned number;
+    bool whole = s->len - s->at >= 2 * kind->keys;
+    if (before != SOUND && whole && compare_keys(s->bytes, kind->keys, before, s->at) >= 0)
+        return s->at;
+    for (unsigned i = 0; i < kind->keys; i++) {
+        size_t fault = take(s, 0, kind->most[i], &number);
+        if (fault != SOUND)
+            return fault;
+    }
+    return SOUND;
+}
+
+static size_t check_section(struct stretch *s, const struct kind *kind) {
+    unsigned count;
+    size_t fault = take(s, 0, 65535, &count), before = SOUND;
+    for (unsigned i = 0; fault == SOUND && i < count; i++) {
+        size_t start = s->at;
+        fault = check_key(s, kind, before);
+        if (fault == SOUND)
+            fault = kind->check_body(s);
+        before = start;
+    }
+    return fault;
+}
+
+/* A checked book: where each section's count stands. */
+struct book {
+    const uint8_t *bytes;
+    size_t section[SECTIONS];
+};
+
+static size_t open_book(struct book *book, const uint8_t *bytes, size_t len) {
+    struct stretch s = {bytes, len, 0};
+    if (len > MOST_BOOK)
+        return MOST_BOOK;
+    book->bytes = bytes;
+    for (unsigned i = 0; i < SECTIONS; i++) {
+        book->section[i] = s.at;
+        size_t fault = check_section(&s, &kinds[i]);
+        if (fault != SOUND)
+            return fault;
+    }
+    return s.at < len ? s.at : SOUND;
+}
+
+/* ---- the plan book: looking up. Only a sound book is looked into. */
+
+static size_t body_bytes(const uint8_t *bytes, unsigned section, size_t body) {
+    static const uint8_t fixed[SECTIONS] = {4, 0, 10, 4};
+    return section == STAGED ? 2 + 6 * (size_t)number_at(bytes, body) : fixed[section];
+}
+
+/* The place of the body under the key, or SOUND where there is none. */
+static size_t find_body(const struct book *book, unsigned section, const unsigned *key) {
+    unsigned keys = kinds[section].keys, count = number_at(book->bytes, book->section[section]);
+    size_t at = book->section[section] + 2;
+    for (unsigned i = 0; i < count; i++) {
+        unsigned same = 0;
+        while (same < keys && number_at(book->bytes, at + 2 * same) == key[same])
+            same++;
+        at += 2 * keys;
+        if (same == keys)
+            return at;
+        at += body_bytes(book->bytes, section, at);
+    }
+    return SOUND;
+}
+
+/* ---- a lot, and what is refused before its plan is known */
+
+struct lot {
+    uint32_t size, level, column, severity;
+    unsigned letter;
+    struct book book;
+};
+
+static uint32_t refuse(unsigned number, size_t place) {
+    return number | (uint32_t)place << 8;
+}
+
+static uint32_t open_lot(struct lot *lot, const uint8_t *book, size_t book_len) {
+    size_t fault = open_book(&lot->book, book, book_len);
+    if (fault != SOUND)
+        return refuse(12, fault);
+    if (lot->severity > STOPPED)
+        return 1;
+    if (lot->size < 2)
+        return 2;
+    if (lot->level > 6)
+        return 3;
+    if (lot->column > 25)
+        return 4;
+    if (lot->severity == STOPPED)
+        return 5;
+    lot->letter = ref_letter(lot->size, lot->level);
+    return 0;
+}
+
+static size_t find_for_lot(const struct lot *lot, unsigned section) {
+    const unsigned key[] = {lot->severity, lot->letter, lot->column};
+    return find_body(&lot->book, section, key + 3 - kinds[section].keys);
+}
+
+/* ---- samples */
+
+struct verdict {
+    unsigned accepted, used, total, stage;
+};
+
+struct sample {
+    const uint8_t *bytes;
+    size_t len;
+    unsigned most_item;
+};
+
+static struct sample sample_for(const struct lot *lot, const uint8_t *bytes, size_t len) {
+    return (struct sample){bytes, len, lot->column <= ITEMS_COLUMN ? 1 : 65535};
+}
+
+/* Adds items first to first + n - 1 to the total; refuses the first that is missing, half there or too large. */
+static uint32_t add_items(const struct sample *sample, unsigned first, unsigned n, unsigned *total) {
+    size_t there = sample->len / 2 < first + n ? sample->len / 2 : first + n;
+    for (size_t i = first; i < there; i++) {
+        unsigned item = number_at(sample->bytes, 2 * i);
+        if (item > sample->most_item)
+            return 8;
+        *total += item;
+    }
+    return there < first + n ? 7 : 0;
+}
+
+/* ---- single sampling */
+
+static uint32_t find_single(const struct lot *lot, struct single_plan *plan) {
+    if (lot->severity == REDUCED) {
+        size_t body = find_for_lot(lot, REDUCED_SINGLES);
+        if (body == SOUND)
+            return 6;
+        plan->letter = lot->letter;
+        plan->n = number_at(lot->book.bytes, body);
+        plan->ac = number_at(lot->book.bytes, body + 2);
+    } else {
+        *plan = table_plan(lot->letter, lot->column, lot->severity);
+    }
+    if (plan->n >= lot->size)
+        plan->n = lot->size;
+    return 0;
+}
+
+static uint32_t judge_single(const struct lot *lot, const uint8_t *bytes, size_t len, struct single_plan *plan,
+                             struct verdict *verdict) {
+    struct sample sample = sample_for(lot, bytes, len);
+    uint32_t status = find_single(lot, plan);
+    if (status != 0)
+        return status;
+    if (len != 2 * (size_t)plan->n)
+        return 7;
+    *verdict = (struct verdict){0, plan->n, 0, 1};
+    if ((status = add_items(&sample, 0, plan->n, &verdict->total)) != 0)
+        return status;
+    verdict->accepted = verdict->total <= plan->ac;
+    return 0;
+}
+
+/* ---- staged sampling */
+
+struct staged_plan {
+    unsigned stages;
+    uint16_t size[MOST_STAGES], ac[MOST_STAGES], re[MOST_STAGES];
+};
+
+static uint32_t find_staged(const struct lot *lot, struct staged_plan *plan) {
+    const uint8_t *bytes = lot->book.bytes;
+    size_t body = find_for_lot(lot, STAGED);
+    unsigned all = 0;
+    if (body == SOUND)
+        return 6;
+    plan->stages = number_at(bytes, body);
+    for (unsigned i = 0; i < plan->stages; i++) {
+        size_t numbers = body + 2 + 2 * plan->stages + 4 * i;
+        plan->size[i] = (uint16_t)number_at(bytes, body + 2 + 2 * i);
+        plan->ac[i] = (uint16_t)number_at(bytes, numbers);
+        plan->re[i] = (uint16_t)number_at(bytes, numbers + 2);
+        all += plan->size[i];
+    }
+    return all > lot->size ? 6 : 0;
+}
+
+static uint32_t judge_staged(const struct lot *lot, const uint8_t *bytes, size_t len, struct verdict *verdict) {
+    struct staged_plan plan;
+    struct sample sample = sample_for(lot, bytes, len);
+    uint32_t status = find_staged(lot, &plan);
+    if (status != 0)
+        return status;
+    *verdict = (struct verdict){0, 0, 0, 0};
+    for (unsigned i = 0; i < plan.stages; i++) {
+        if ((status = add_items(&sample, verdict->used, plan.size[i], &verdict->total)) != 0)
+            return status;
+        verdict->used += plan.size[i];
+        verdict->stage = i + 1;
+        verdict->accepted = plan.ac[i] != MARK && verdict->total <= plan.ac[i];
+        if (verdict->accepted || verdict->total >= plan.re[i])
+            break;
+    }
+    return len == 2 * (size_t)verdict->used ? 0 : 7;
+}
+
+/* ---- sequential sampling */
+
+struct sequential_plan {
+    unsigned ha, hr, g, nt, at;
+};
+
+static uint32_t find_sequential(const struct lot *lot, struct sequential_plan *plan) {
+    const uint8_t *bytes = lot->book.bytes;
+    size_t body = find_for_lot(lot, SEQUENTIAL);
+    if (body == SOUND)
+        return 6;
+    plan->ha = number_at(bytes, body);
+    plan->hr = number_at(bytes, body + 2);
+    plan->g = number_at(bytes, body + 4);
+    plan->nt = number_at(bytes, body + 6);
+    plan->at = number_at(bytes, body + 8);
+    return plan->nt > lot->size ? 6 : 0;
+}
+
+/* Decides after item n with the total, all in hundred-thousandths; false where inspection goes on. */
+static bool sequential_decides(const struct sequential_plan *plan, unsigned n, unsigned total, unsigned *accepted) {
+    uint64_t line = (uint64_t)plan->g * n, count = (uint64_t)total * 100000;
+    if (n == plan->nt) {
+        *accepted = total <= plan->at;
+        return true;
+    }
+    *accepted = count + 100 * (uint64_t)plan->ha <= line;
+    return *accepted || count >= line + 100 * (uint64_t)plan->hr;
+}
+
+static uint32_t judge_sequential(const struct lot *lot, const uint8_t *bytes, size_t len, struct verdict *verdict) {
+    struct sequential_plan plan;
+    struct sample sample = sample_for(lot, bytes, len);
+    uint32_t status = find_sequential(lot, &plan);
+    if (status != 0)
+        return status;
+    *verdict = (struct verdict){0, 0, 0, 0};
+    do {
+        if ((status = add_items(&sample, verdict->used, 1, &verdict->total)) != 0)
+            return status;
+        verdict->used++;
+    } while (!sequential_decides(&plan, verdict->used, verdict->total, &verdict->accepted));
+    return len == 2 * (size_t)verdict->used ? 0 : 7;
+}
+
+/* ---- variables, s method, and the screen */
+
+struct sums {
+    int64_t n, sum, squares;
+};
+
+static bool in_gauge(int32_t reading) {
+    return reading >= -1000 && reading <= 1000;
+}
+
+static uint32_t add_readings(const uint8_t *readings, unsigned n, struct sums *sums) {
+    *sums = (struct sums){n, 0, 0};
+    for (unsigned i = 0; i < n; i++) {
+        int32_t reading = (int16_t)number_at(readings, 2 * (size_t)i);
+        if (!in_gauge(reading))
+            return 9;
+        sums->sum += reading;
+        sums->squares += (int64_t)reading * reading;
+    }
+    return 0;
+}
+
+/* n W - S S, that is n (n - 1) times the variance. */
+static int64_t spread(const struct sums *sums) {
+    return sums->n * sums->squares - sums->sum * sums->sum;
+}
+
+/* The margin is n U - S or S - n L. The largest product is below 2^61. */
+static bool margin_suffices(int64_t margin, const struct sums *sums, int64_t k) {
+    return margin >= 0 && 1000000 * margin * margin * (sums->n - 1) >= k * k * sums->n * spread(sums);
+}
+
+static uint32_t judge_variables(struct lot *lot, const uint8_t *readings, size_t len, int32_t limit, int side,
+                                unsigned *accepted, unsigned *used) {
+    struct sums sums;
+    size_t body = find_for_lot(lot, VARIABLES);
+    if (body == SOUND)
+        return 6;
+    unsigned n = number_at(lot->book.bytes, body), k = number_at(lot->book.bytes, body + 2);
+    if (n > lot->size)
+        return 6;
+    if (len != 2 * (size_t)n)
+        return 7;
+    if (add_readings(readings, n, &sums) != 0 || !in_gauge(limit))
+        return 9;
+    *accepted = margin_suffices(side * (sums.n * limit - sums.sum), &sums, k);
+    *used = n;
+    return 0;
+}
+
+uint32_t ref_screen(const uint8_t *readings, size_t readings_len, double *mean, double *variance, uint8_t *both) {
+    struct sums sums;
+    if (readings_len < 2 || readings_len > 100 || readings_len % 2 != 0)
+        return 7;
+    uint32_t status = add_readings(readings, (unsigned)(readings_len / 2), &sums);
+    if (status != 0)
+        return status;
+    *mean = (double)sums.sum / (double)sums.n;
+    *both = sums.n > 1;
+    if (sums.n > 1)
+        *variance = (double)spread(&sums) / (double)(sums.n * (sums.n - 1));
+    return 0;
+}
+
+/* ---- the severity record */
+
+struct record {
+    uint8_t severity, score, run, count, window, steady, permission;
+};
+
+static unsigned ones(unsigned bits) {
+    unsigned n = 0;
+    for (; bits != 0; bits &= bits - 1)
+        n++;
+    return n;
+}
+
+/* False where the lent record is out of range. */
+static bool read_record(struct record *r, const uint8_t *bytes, size_t len) {
+    if (len != sizeof *r)
+        return false;
+    memcpy(r, bytes, sizeof *r);
+    if (r->severity > STOPPED || r->score > 30 || r->run > 4 || r->count > 4 || r->window > 31 || ones(r->window) > 1)
+        return false;
+    if (r->severity != NORMAL && (r->score != 0 || r->window != 0))
+        return false;
+    if (r->severity != TIGHTENED && (r->run != 0 || r->count != 0))
+        return false;
+    return r->steady <= 1 && r->permission <= 1;
+}
+
+static void start_stay(struct record *r, uint8_t severity) {
+    *r = (struct record){severity, 0, 0, 0, 0, r->steady, r->permission};
+}
+
+static void step_normal_lot(struct record *r, unsigned event) {
+    unsigned points = event == ADD_3 ? 3 : 2, score = r->score + points;
+    r->window = (uint8_t)((2 * r->window + (event == NOT_ACCEPTED)) % 32);
+    r->score = event == SCORE_0 || event == NOT_ACCEPTED ? 0 : (uint8_t)(score > 30 ? 30 : score);
+    if (ones(r->window) >= 2)
+        start_stay(r, TIGHTENED);
+}
+
+static void step_tightened_lot(struct record *r, unsigned event) {
+    if (event == NOT_ACCEPTED) {
+        r->run = 0;
+        if (++r->count == 5)
+            start_stay(r, STOPPED);
+    } else if (++r->run == 5) {
+        start_stay(r, NORMAL);
+    }
+}
+
+static void step_lot(struct record *r, unsigned event) {
+    if (r->severity == NORMAL)
+        step_normal_lot(r, event);
+    else if (r->severity == TIGHTENED)
+        step_tightened_lot(r, event);
+    else if (event == NOT_ACCEPTED)
+        start_stay(r, NORMAL);
+}
+
+static void step_order(struct record *r, unsigned event) {
+    if (event == STEADY || event == NOT_STEADY)
+        r->steady = event == STEADY;
+    else if (event == PERMISSION || event == WITHDRAWN)
+        r->permission = event == PERMISSION;
+    else
+        start_stay(r, TIGHTENED);
+    if (r->severity == REDUCED && (event == NOT_STEADY || event == WITHDRAWN))
+        start_stay(r, NORMAL);
+}
+
+/* Moves the record by an event, or gives the number of the refusal. */
+static uint32_t step(struct record *r, unsigned event) {
+    if (event <= RESUBMITTED && r->severity == STOPPED)
+        return 5;
+    if (event == CORRECTIVE && r->severity != STOPPED)
+        return 10;
+    if (event == RESUBMITTED)
+        return 0;
+    if (event < RESUBMITTED)
+        step_lot(r, event);
+    else
+        step_order(r, event);
+    if (r->severity == NORMAL && r->score == 30 && r->steady && r->permission)
+        start_stay(r, REDUCED);
+    return 0;
+}
+
+/* ---- what a closed lot is to the record */
+
+static unsigned single_event(const struct lot *lot, const struct single_plan *plan, const struct verdict *verdict) {
+    if (!verdict->accepted)
+        return NOT_ACCEPTED;
+    if (lot->severity != NORMAL || plan->ac < 2)
+        return ADD_2;
+    return (int)verdict->total <= normal_box(plan->letter, lot->column - 1) ? ADD_3 : SCORE_0;
+}
+
+static unsigned staged_event(const struct verdict *verdict) {
+    if (!verdict->accepted)
+        return NOT_ACCEPTED;
+    return verdict->stage == 1 ? ADD_3 : SCORE_0;
+}
+
+/* ---- the entries */
+
+uint32_t ref_plan(uint32_t size, uint32_t level, uint32_t column, uint32_t severity, const uint8_t *book,
+                  size_t book_len, uint8_t *letter, uint16_t *n, uint16_t *ac) {
+    struct lot lot = {.size = size, .level = level, .column = column, .severity = severity};
+    struct single_plan plan;
+    uint32_t status = open_lot(&lot, book, book_len);
+    if (status == 0)
+        status = find_single(&lot, &plan);
+    if (status != 0)
+        return status;
+    *letter = (uint8_t)plan.letter;
+    *n = (uint16_t)plan.n;
+    *ac = (uint16_t)plan.ac;
+    return 0;
+}
+
+static uint32_t answer(uint32_t status, const struct verdict *verdict, uint8_t *accepted, uint16_t *used) {
+    if (status == 0) {
+        *accepted = (uint8_t)verdict->accepted;
+        *used = (uint16_t)verdict->used;
+    }
+    return status;
+}
+
+uint32_t ref_single(uint32_t size, uint32_t level, uint32_t column, uint32_t severity, const uint8_t *book,
+                    size_t book_len, const uint8_t *sample, size_t sample_len, uint8_t *accepted, uint16_t *used) {
+    struct lot lot = {.size = size, .level = level, .column = column, .severity = severity};
+    struct single_plan plan;
+    struct verdict verdict;
+    uint32_t status = open_lot(&lot, book, book_len);
+    if (status == 0)
+        status = judge_single(&lot, sample, sample_len, &plan, &verdict);
+    return answer(status, &verdict, accepted, used);
+}
+
+uint32_t ref_staged(uint32_t size, uint32_t level, uint32_t column, uint32_t severity, const uint8_t *book,
+                    size_t book_len, const uint8_t *sample, size_t sample_len, uint8_t *accepted, uint16_t *used) {
+    struct lot lot = {.size = size, .level = level, .column = column, .severity = severity};
+    struct verdict verdict;
+    uint32_t status = open_lot(&lot, book, book_len);
+    if (status == 0)
+        status = judge_staged(&lot, sample, sample_len, &verdict);
+    return answer(status, &verdict, accepted, used);
+}
+
+uint32_t ref_sequential(uint32_t size, uint32_t level, uint32_t column, uint32_t severity, const uint8_t *book,
+                        size_t book_len, const uint8_t *sample, size_t sample_len, uint8_t *accepted, uint16_t *used) {
+    struct lot lot = {.size = size, .level = level, .column = column, .severity = severity};
+    struct verdict verdict;
+    uint32_t status = open_lot(&lot, book, book_len);
+    if (status == 0)
+        status = judge_sequential(&lot, sample, sample_len, &verdict);
+    return answer(status, &verdict, accepted, used);
+}
+
+/* The side is 1 for an upper limit and -1 for a lower one. */
+static uint32_t variables(struct lot lot, const uint8_t *book, size_t book_len, const uint8_t *readings,
+                          size_t readings_len, int32_t limit, int side, uint8_t *accepted, uint16_t *used) {
+    struct verdict verdict;
+    uint32_t status = open_lot(&lot, book, book_len);
+    if (status == 0)
+        status = judge_variables(&lot, readings, readings_len, limit, side, &verdict.accepted, &verdict.used);
+    return answer(status, &verdict, accepted, used);
+}
+
+uint32_t ref_variables_upper(uint32_t size, uint32_t level, uint32_t column, uint32_t severity, const uint8_t *book,
+                             size_t book_len, const uint8_t *readings, size_t readings_len, int32_t limit,
+                             uint8_t *accepted, uint16_t *used) {
+    struct lot lot = {.size = size, .level = level, .column = column, .severity = severity};
+    return variables(lot, book, book_len, readings, readings_len, limit, 1, accepted, used);
+}
+
+uint32_t ref_variables_lower(uint32_t size, uint32_t level, uint32_t column, uint32_t severity, const uint8_t *book,
+                             size_t book_len, const uint8_t *readings, size_t readings_len, int32_t limit,
+                             uint8_t *accepted, uint16_t *used) {
+    struct lot lot = {.size = size, .level = level, .column = column, .severity = severity};
+    return variables(lot, book, book_len, readings, readings_len, limit, -1, accepted, used);
+}
+
+uint32_t ref_next(uint8_t *record, size_t record_len, uint32_t event) {
+    struct record r;
+    if (!read_record(&r, record, record_len) || event > CORRECTIVE)
+        return 1;
+    uint32_t status = step(&r, event);
+    if (status == 0)
+        memcpy(record, &r, sizeof r);
+    return status;
+}
+
+/* A record out of range is refused as a severity over 3 is: after the book and before the lot. */
+static uint32_t open_close(struct record *r, const uint8_t *record, size_t record_len, struct lot *lot,
+                           const uint8_t *book, size_t book_len) {
+    lot->severity = read_record(r, record, record_len) ? r->severity : STOPPED + 1;
+    return open_lot(lot, book, book_len);
+}
+
+static void close_lot(uint8_t *record, struct record *r, uint32_t resubmitted, unsigned event) {
+    step(r, resubmitted != 0 ? RESUBMITTED : event);
+    memcpy(record, r, sizeof *r);
+}
+
+uint32_t ref_close_single(uint8_t *record, size_t record_len, uint32_t resubmitted, uint32_t size, uint32_t level,
+                          uint32_t column, const uint8_t *book, size_t book_len, const uint8_t *sample,
+                          size_t sample_len, uint8_t *accepted, uint16_t *used) {
+    struct lot lot = {.size = size, .level = level, .column = column};
+    struct record r;
+    struct single_plan plan;
+    struct verdict verdict;
+    uint32_t status = open_close(&r, record, record_len, &lot, book, book_len);
+    if (status == 0)
+        status = judge_single(&lot, sample, sample_len, &plan, &verdict);
+    if (status == 0)
+        close_lot(record, &r, resubmitted, single_event(&lot, &plan, &verdict));
+    return answer(status, &verdict, accepted, used);
+}
+
+uint32_t ref_close_staged(uint8_t *record, size_t record_len, uint32_t resubmitted, uint32_t size, uint32_t level,
+                          uint32_t column, const uint8_t *book, size_t book_len, const uint8_t *sample,
+                          size_t sample_len, uint8_t *accepted, uint16_t *used) {
+    struct lot lot = {.size = size, .level = level, .column = column};
+    struct record r;
+    struct verdict verdict;
+    uint32_t status = open_close(&r, record, record_len, &lot, book, book_len);
+    if (status == 0)
+        status = judge_staged(&lot, sample, sample_len, &verdict);
+    if (status == 0)
+        close_lot(record, &r, resubmitted, staged_event(&verdict));
+    return answer(status, &verdict, accepted, used);
+}
+
+uint32_t ref_check_book(const uint8_t *book, size_t book_len) {
+    struct book opened;
+    size_t fault = open_book(&opened, book, book_len);
+    return fault == SOUND ? 0 : refuse(12, fault);
+}
+
+/* ---- the written reading of a history. No record: each figure is counted back from the end of the stay. */
+
+struct stay {
+    unsigned severity;
+    size_t start;
+};
+
+static bool is_original(uint8_t byte) {
+    return byte <= NOT_ACCEPTED;
+}
+
+/* The last five original lots of the stay as bits, the newest in bit 0, 1 for one not accepted. */
+static unsigned last_five(const uint8_t *history, size_t start, size_t end) {
+    unsigned bits = 0, lots = 0;
+    while (end > start && lots < 5) {
+        uint8_t byte = history[--end];
+        if (is_original(byte))
+            bits |= (unsigned)(byte == NOT_ACCEPTED) << lots++;
+    }
+    return bits;
+}
+
+/* The accepted lots of the stay after the last one not accepted. */
+static unsigned accepted_in_a_row(const uint8_t *history, size_t start, size_t end) {
+    unsigned lots = 0;
+    while (end > start && history[end - 1] != NOT_ACCEPTED)
+        lots += is_original(history[--end]);
+    return lots;
+}
+
+static unsigned not_accepted_in(const uint8_t *history, size_t start, size_t end) {
+    unsigned lots = 0;
+    while (end > start)
+        lots += history[--end] == NOT_ACCEPTED;
+    return lots;
+}
+
+/* The points of the stay after its last score 0, cut to 30: once there, no earlier lot counts. */
+static unsigned points_in(const uint8_t *history, size_t start, size_t end) {
+    unsigned points = 0;
+    while (end > start && points < 30) {
+        uint8_t byte = history[--end];
+        if (byte == SCORE_0 || byte == NOT_ACCEPTED)
+            break;
+        points += byte == ADD_3 ? 3 : byte == ADD_2 ? 2 : 0;
+    }
+    return points > 30 ? 30 : points;
+}
+
+/* As last ordered, else no, as at the start. */
+static bool as_ordered(const uint8_t *history, size_t end, uint8_t yes, uint8_t no) {
+    while (end > 0) {
+        uint8_t byte = history[--end];
+        if (byte == yes || byte == no)
+            return byte == yes;
+    }
+    return false;
+}
+
+static unsigned refused_byte(unsigned severity, uint8_t byte) {
+    if (byte > CORRECTIVE)
+        return 1;
+    if (byte <= RESUBMITTED && severity == STOPPED)
+        return 5;
+    return byte == CORRECTIVE && severity != STOPPED ? 10 : 0;
+}
+
+/* The severity after the byte before end, which is the last of the stay. */
+static unsigned severity_after(const uint8_t *history, struct stay stay, size_t end) {
+    uint8_t byte = history[end - 1];
+    bool ends_reduced = byte == NOT_ACCEPTED || byte == NOT_STEADY || byte == WITHDRAWN;
+    switch (stay.severity) {
+    case NORMAL:
+        if (byte == NOT_ACCEPTED && ones(last_five(history, stay.start, end)) >= 2)
+            return TIGHTENED;
+        if (byte != RESUBMITTED && points_in(history, stay.start, end) == 30 &&
+            as_ordered(history, end, STEADY, NOT_STEADY) && as_ordered(history, end, PERMISSION, WITHDRAWN))
+            return REDUCED;
+        return NORMAL;
+    case TIGHTENED:
+        if (accepted_in_a_row(history, stay.start, end) == 5)
+            return NORMAL;
+        return not_accepted_in(history, stay.start, end) == 5 ? STOPPED : TIGHTENED;
+    case REDUCED:
+        return ends_reduced ? NORMAL : REDUCED;
+    default:
+        return byte == CORRECTIVE ? TIGHTENED : STOPPED;
+    }
+}
+
+/* Reads the whole history from nothing; out, where it is lent, gets the severity after each byte. */
+static unsigned read_stays(const uint8_t *history, size_t len, struct stay *stay, uint8_t *out, size_t *place) {
+    *stay = (struct stay){NORMAL, 0};
+    for (size_t i = 0; i < len; i++) {
+        unsigned number = refused_byte(stay->severity, history[i]);
+        if (number != 0) {
+            *place = i;
+            return number;
+        }
+        unsigned severity = severity_after(history, *stay, i + 1);
+        if (severity != stay->severity)
+            *stay = (struct stay){severity, i + 1};
+        if (out != NULL)
+            out[i] = (uint8_t)severity;
+    }
+    return 0;
+}
+
+unsigned ref_list_severities(const uint8_t *history, size_t len, uint8_t *out, size_t room, size_t *place) {
+    struct stay stay;
+    unsigned number = read_stays(history, len, &stay, NULL, place);
+    if (number != 0)
+        return number;
+    if (room < len) {
+        *place = 0;
+        return 11;
+    }
+    return read_stays(history, len, &stay, out, place);
+}
+
+unsigned ref_read_history(const uint8_t *history, size_t len, uint8_t record[7], size_t *place) {
+    struct stay stay;
+    unsigned number = read_stays(history, len, &stay, NULL, place);
+    if (number != 0)
+        return number;
+    bool normal = stay.severity == NORMAL, tightened = stay.severity == TIGHTENED;
+    record[0] = (uint8_t)stay.severity;
+    record[1] = normal ? (uint8_t)points_in(history, stay.start, len) : 0;
+    record[2] = tightened ? (uint8_t)accepted_in_a_row(history, stay.start, len) : 0;
+    record[3] = tightened ? (uint8_t)not_accepted_in(history, stay.start, len) : 0;
+    record[4] = normal ? (uint8_t)last_five(history, stay.start, len) : 0;
+    record[5] = as_ordered(history, len, STEADY, NOT_STEADY);
+    record[6] = as_ordered(history, len, PERMISSION, WITHDRAWN);
+    return 0;
+}
