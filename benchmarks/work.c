@@ -1,0 +1,282 @@
+/* The work that is timed. See work.h. */
+#include "work.h"
+
+#include "../include/hipomoake.h"
+#include "../tests/terminal/reference.h"
+
+#include <stdbool.h>
+#include <stdio.h>
+#include <string.h>
+
+const struct side sides[SIDES] = {
+    {hm_plan, hm_single, hm_staged, hm_sequential, hm_variables_upper, hm_check_book, bench_list},
+    {ref_plan, ref_single, ref_staged, ref_sequential, ref_variables_upper, ref_check_book, plain_list},
+};
+
+enum { MOST_ITEMS = 14000, MOST_HISTORY = 1000000, STAGES = 7 };
+enum { BANDS = 15, LEVELS = 7, LETTERS = 16, COLUMNS = 26, ITEM_COLUMNS = 16 };
+enum { LEVEL_I = 4, LEVEL_II, LEVEL_III, LETTER_R = 15 };
+
+/* The step from a lot to the next one is a prime, and reaches them all. */
+enum { LOTS = 2 * BANDS * LEVELS * COLUMNS * 2, SCATTER = 7919 };
+
+struct lot {
+    uint32_t size, level, column, severity;
+};
+
+static struct lot lot, lots[LOTS];
+static size_t calls, book_len, sample_len, history_len;
+static uint8_t book[HM_BOOK_BYTES], sample[2 * MOST_ITEMS], history[MOST_HISTORY], listed[MOST_HISTORY];
+
+static uint32_t below(uint32_t n) {
+    static uint64_t state = 1;
+    state ^= state << 13;
+    state ^= state >> 7;
+    state ^= state << 17;
+    return (uint32_t)((state * 0x2545f4914f6cdd1du >> 32) * n >> 32);
+}
+
+static void put(uint8_t *bytes, size_t *len, unsigned number) {
+    bytes[(*len)++] = (uint8_t)number;
+    bytes[(*len)++] = (uint8_t)(number >> 8);
+}
+
+static void put_book(unsigned number) {
+    put(book, &book_len, number);
+}
+
+static void put_item(unsigned number) {
+    put(sample, &sample_len, number);
+}
+
+static void begin(struct lot of) {
+    lot = of;
+    book_len = sample_len = 0;
+}
+
+/* A book with one entry: the numbers of its section, and none in the other three. */
+static void one_entry(unsigned section, const unsigned *numbers, unsigned n) {
+    for (unsigned i = 0; i < 4; i++) {
+        put_book(i == section);
+        for (unsigned j = 0; i == section && j < n; j++)
+            put_book(numbers[j]);
+    }
+}
+
+static void no_book(void) {
+    for (unsigned i = 0; i < 4; i++)
+        put_book(0);
+}
+
+/* ---- plan look-ups: both ends of each band of Table 1, every level and column, normal and tightened, scattered */
+
+static struct lot lot_at(unsigned i) {
+    static const uint32_t up_to[] = {1,   8,    15,   25,    50,    90,     150,    280,
+                                     500, 1200, 3200, 10000, 35000, 150000, 500000, UINT32_MAX};
+    unsigned end = i % (2 * BANDS), rest = i / (2 * BANDS);
+    uint32_t size = end % 2 == 0 ? up_to[end / 2] + 1 : up_to[end / 2 + 1];
+    return (struct lot){size, rest % LEVELS, rest / LEVELS % COLUMNS, rest / LEVELS / COLUMNS};
+}
+
+static void prepare_plans(size_t size) {
+    begin((struct lot){0});
+    no_book();
+    calls = size;
+    for (unsigned i = 0; i < LOTS; i++)
+        lots[i] = lot_at(i * SCATTER % LOTS);
+}
+
+static uint64_t run_plans(const struct side *side) {
+    uint64_t digest = 0;
+    for (size_t i = 0, at = 0; i < calls; i++, at = at + 1 < LOTS ? at + 1 : 0) {
+        uint8_t letter = 0;
+        uint16_t n = 0, ac = 0;
+        uint32_t status = side->plan(lots[at].size, lots[at].level, lots[at].column, lots[at].severity, book, book_len,
+                                     &letter, &n, &ac);
+        digest += status + ((uint64_t)letter << 40) + ((uint64_t)n << 20) + ac;
+    }
+    return digest;
+}
+
+/* ---- samples: none is decided before its last item */
+
+static uint64_t verdict(uint32_t status, uint8_t accepted, uint16_t used) {
+    return status + ((uint64_t)accepted << 62) + ((uint64_t)used << 32);
+}
+
+/* Tightened R, 0.025 takes 3,150 items; normal M, 0.15 takes 315. */
+static void prepare_single(size_t size) {
+    begin(size == 3150 ? (struct lot){500001, LEVEL_III, 2, HM_TIGHTENED}
+                       : (struct lot){10001, LEVEL_II, 6, HM_NORMAL});
+    no_book();
+    for (size_t i = 0; i < size; i++)
+        put_item(i == size / 2);
+}
+
+static uint64_t run_single(const struct side *side) {
+    uint8_t accepted = 0;
+    uint16_t used = 0;
+    uint32_t status = side->single(lot.size, lot.level, lot.column, lot.severity, book, book_len, sample, sample_len,
+                                   &accepted, &used);
+    return verdict(status, accepted, used);
+}
+
+/* Seven stages that accept only at the last. */
+static void prepare_staged(size_t size) {
+    unsigned stage = (unsigned)size / STAGES, numbers[4 + 3 * STAGES] = {0, LETTER_R, 6, STAGES};
+    begin((struct lot){500001, LEVEL_III, 6, HM_NORMAL});
+    for (unsigned i = 0; i < STAGES; i++) {
+        numbers[4 + i] = stage;
+        numbers[4 + STAGES + 2 * i] = i + 1 < STAGES ? HM_MARK : 21;
+        numbers[4 + STAGES + 2 * i + 1] = 22;
+    }
+    one_entry(1, numbers, 4 + 3 * STAGES);
+    for (size_t i = 0; i < size; i++)
+        put_item(i % 1000 == 999);
+}
+
+static uint64_t run_staged(const struct side *side) {
+    uint8_t accepted = 0;
+    uint16_t used = 0;
+    uint32_t status = side->staged(lot.size, lot.level, lot.column, lot.severity, book, book_len, sample, sample_len,
+                                   &accepted, &used);
+    return verdict(status, accepted, used);
+}
+
+/* Lines so far apart that only the last item decides. */
+static void prepare_sequential(size_t size) {
+    const unsigned numbers[] = {0, LETTER_R, 6, 65535, 65535, 1000, (unsigned)size, 31};
+    begin((struct lot){500001, LEVEL_III, 6, HM_NORMAL});
+    one_entry(2, numbers, sizeof numbers / sizeof *numbers);
+    for (size_t i = 0; i < size; i++)
+        put_item(i % 100 == 99);
+}
+
+static uint64_t run_sequential(const struct side *side) {
+    uint8_t accepted = 0;
+    uint16_t used = 0;
+    uint32_t status = side->sequential(lot.size, lot.level, lot.column, lot.severity, book, book_len, sample,
+                                       sample_len, &accepted, &used);
+    return verdict(status, accepted, used);
+}
+
+static void put_readings(size_t n) {
+    for (size_t i = 0; i < n; i++)
+        put_item((uint16_t)(below(401) - 200));
+}
+
+static void prepare_variables(size_t size) {
+    const unsigned numbers[] = {0, LETTER_R, 6, (unsigned)size, 1500};
+    begin((struct lot){500001, LEVEL_III, 6, HM_NORMAL});
+    one_entry(3, numbers, sizeof numbers / sizeof *numbers);
+    put_readings(size);
+}
+
+static uint64_t run_variables(const struct side *side) {
+    uint8_t accepted = 0;
+    uint16_t used = 0;
+    uint32_t status = side->variables(lot.size, lot.level, lot.column, lot.severity, book, book_len, sample, sample_len,
+                                      300, &accepted, &used);
+    return verdict(status, accepted, used);
+}
+
+/* ---- a full book, or one with a tenth of its entries; the lot's variables plan is its last entry */
+
+static void put_stages(unsigned stages) {
+    put_book(stages);
+    for (unsigned i = 0; i < stages; i++)
+        put_book(100 * (i + 1));
+    for (unsigned i = 0; i < stages; i++) {
+        put_book(i == 0 ? HM_MARK : i);
+        put_book(stages);
+    }
+}
+
+static void put_body(unsigned section, unsigned stages) {
+    static const unsigned bodies[][5] = {{80, 2}, {0}, {1750, 2247, 9570, 98, 9}, {2, 1500}};
+    static const unsigned numbers[] = {2, 0, 5, 2};
+    if (section == 1)
+        put_stages(stages);
+    for (unsigned i = 0; i < numbers[section]; i++)
+        put_book(bodies[section][i]);
+}
+
+static void put_section(unsigned section, unsigned entries, unsigned sevens, unsigned threes) {
+    unsigned columns = section < 2 ? COLUMNS : ITEM_COLUMNS;
+    put_book(entries);
+    for (unsigned i = 0; i < entries; i++) {
+        if (section > 0)
+            put_book(i / columns / LETTERS);
+        put_book(i / columns % LETTERS);
+        put_book(i % columns);
+        put_body(section, i < sevens ? 7 : i < sevens + threes ? 3 : 2);
+    }
+}
+
+/* Every reduced, sequential and variables plan that there can be, and staged ones until 32,768 bytes are full. */
+static void prepare_book(size_t size) {
+    static const unsigned entries[] = {416, 322, 768, 768};
+    bool full = size == HM_BOOK_BYTES;
+    unsigned part = full ? 1 : 10;
+    begin(full ? (struct lot){500001, LEVEL_III, 15, HM_REDUCED} : (struct lot){280, LEVEL_I, 11, HM_NORMAL});
+    for (unsigned i = 0; i < 4; i++)
+        put_section(i, entries[i] / part, 100 / part, 4 / part);
+    put_readings(2);
+}
+
+static uint64_t run_check(const struct side *side) {
+    return side->check_book(book, book_len);
+}
+
+/* ---- histories that go through all severities; each byte is drawn, and those that would be refused are left out */
+
+static void draw_history(size_t size, const char *from) {
+    uint8_t record[HM_RECORD_BYTES] = {0};
+    for (history_len = 0; history_len < size;) {
+        uint8_t byte = (uint8_t)(from[below((uint32_t)strlen(from))] - '0');
+        if (ref_next(record, sizeof record, byte) == 0)
+            history[history_len++] = byte;
+    }
+}
+
+/* One supply: nine of ten lots are accepted, and most of them add 3. */
+static void prepare_history(size_t size) {
+    draw_history(size, "0000000000000000000000000000000000000000222333345567789");
+}
+
+/* Bytes that no branch can foresee. */
+static void prepare_any_history(size_t size) {
+    draw_history(size, "0123456789");
+}
+
+static uint64_t run_history(const struct side *side) {
+    uint64_t digest = side->list(history, history_len, listed, history_len);
+    for (size_t i = 0; i < history_len; i += 997)
+        digest = 31 * digest + listed[i];
+    return digest;
+}
+
+const struct work works[WORKS] = {
+    {"plans looked up", "lots", 1000000, 1000, 0, prepare_plans, run_plans},
+    {"a single sample", "items", 3150, 3150, 0, prepare_single, run_single},
+    {"a staged sample", "items", 14000, 14000, 0, prepare_staged, run_staged},
+    {"a sequential sample", "items", 3150, 3150, 0, prepare_sequential, run_sequential},
+    {"variables", "readings", 50, 50, 0, prepare_variables, run_variables},
+    {"a full book checked", "bytes", HM_BOOK_BYTES, HM_BOOK_BYTES, 500e3, prepare_book, run_check},
+    {"a full book checked and searched", "bytes", HM_BOOK_BYTES, HM_BOOK_BYTES, 500e3, prepare_book, run_variables},
+    {"a supply's history listed", "bytes", MOST_HISTORY, 10000, 20e6, prepare_history, run_history},
+    {"a history of any bytes listed", "bytes", MOST_HISTORY, 10000, 20e6, prepare_any_history, run_history},
+};
+
+void print_lines(size_t lines) {
+    for (size_t i = 0; i < lines; i++) {
+        uint32_t kind = below(100);
+        if (kind < 88)
+            printf("%c %u %u %u %u\n", kind < 84 ? 'L' : 'R', (unsigned)(2 + below(below(2) ? 100000 : 1000)),
+                   (unsigned)below(LEVELS), (unsigned)below(COLUMNS), (unsigned)below(below(12) ? 2 : 40));
+        else if (kind < 92)
+            printf("%c %u\n", kind < 90 ? 'S' : 'P', (unsigned)below(2));
+        else
+            puts(kind < 99 ? "C" : "L 1000 5 10");
+    }
+}
