@@ -2,6 +2,7 @@
 -- Definitions only.
 use Prim.Native.Nat.{ℕ, zero, suc, _≤_}
 use mathlib.Core.Path.{_≡_}
+use mathlib.Core.Bool.{Bool, cond}
 use mathlib.Core.List.{List}
 use lib.ListN.{length, set}
 use Rattle.rules.specs.Refusals.{Answer, refused, given, andThen}
@@ -87,8 +88,14 @@ pub record Writable (r : paper.Record) (h out : List ℕ) : Type 0 where
   pub good : checkedFrom r h ≡ given (length h)
   pub room : length h ≤ length out
 
-abbrev pub Writes : paper.Record → List ℕ → List ℕ → List ℕ → Type 0
-Writes r h out last = last ≡ writtenFrom r h out (length h)
+-- what a buffer holds after the first i bytes of a walk, which writes or only checks
+abbrev pub walkedFrom : paper.Record → List ℕ → Bool → List ℕ → ℕ → List ℕ
+walkedFrom r h writes out i = cond writes (writtenFrom r h out i) out
+
+-- A walk's whole promise: the answer, and what the buffer then holds.
+pub record Walks (start : paper.Record) (h : List ℕ) (writes : Bool) (out last : List ℕ) (r : Listed) : Type 0 where
+  pub answer : paperListed r ≡ checkedFrom start h
+  pub buffer : last ≡ walkedFrom start h writes out (length h)
 
 -- The severity list's whole promise: the answer, and what the buffer then holds by the written reading.
 pub record Lists (h out last : List ℕ) (r : Listed) : Type 0 where

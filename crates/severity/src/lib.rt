@@ -1,18 +1,16 @@
 // The severity record of one supply: what each event makes of it, by value and lent, and the severities of a history.
 ghost use mathlib.Core.Path.{_≡_};
-ghost use mathlib.Core.Bool.{_&&_};
+ghost use mathlib.Core.Bool.{true, _&&_};
 ghost use Prim.Native.Nat.{_+_, _≤_, min};
 ghost use lib.Dec.{eqb};
-ghost use lib.ListN.{length};
-ghost use Rattle.rules.specs.Refusals.{given};
 ghost use Rattle.rules.specs.Severity.{accepted, started, fresh, due, settled, scoreAfter, windowAfter, lotNormal};
 ghost use Rattle.rules.specs.Severity.{lotTightened, onLot, onResubmitted, onOrder, onCorrective, step, inRange};
 ghost use Rattle.rules.specs.Severity.{onNormal, onTightened, scoreAndWindow, noScoreOrWindow, runAndCount};
 ghost use Rattle.rules.specs.Severity.{noRunOrCount, counted, singlePoints, stagedPoints};
 ghost use Rattle.rules.specs.History.{ours, eventIn};
 ghost use Rattle.rules.specs.Entries.{onRecord, next};
-ghost use Rattle.severity.specs.Paper.{paperLot, paperEvent, paperRecord, paperStepped, paperListed};
-ghost use Rattle.severity.specs.Paper.{keptOf, Closes, checkedFrom, Writable, Writes, Lists};
+ghost use Rattle.severity.specs.Paper.{paperLot, paperEvent, paperRecord, paperStepped};
+ghost use Rattle.severity.specs.Paper.{keptOf, Closes, Writable, Walks, Lists};
 
 // The window is five bits, the newest lot in the lowest, 1 for a lot not accepted.
 pub struct Record {
@@ -373,31 +371,10 @@ fn step_byte(old: Record, byte: u8) -> Stepped
     step(old, event_of(byte as u32))
 }
 
-// The first bad byte of a history that goes on from a record, or how many bytes it has.
-fn check_history(history: &[u8], from: Record) -> Listed
-    ensures { λ r. ⌜ paperListed r ≡ checkedFrom (paperRecord from) (now (history .entry)) ⌝ }
-{
-    let mut old = from;
-    let mut i: usize = 0;
-    while i < history.len() {
-        let answer = step_byte(old, history[i]);
-        match answer {
-            Stepped::Given(new) => {
-                old = new;
-            }
-            Stepped::Refused(number, _) => {
-                return Listed::Refused(number, i);
-            }
-        }
-        i += 1;
-    }
-    Listed::Given(i)
-}
-
-// The severity after each byte of a good history that goes on from a record.
-fn write_severities(history: &[u8], out: &mut [u8], from: Record)
-    requires { ⌜ Writable (paperRecord from) (now history) (now out) ⌝ }
-    ensures { λ _. ⌜ Writes (paperRecord from) (now (history .entry)) (now (out .entry)) (now (out .exit)) ⌝ }
+// A history that goes on from a record, checked or written: one loop for both, so that the step is compiled into it.
+fn walk_history(history: &[u8], out: &mut [u8], from: Record, writes: bool) -> Listed
+    requires { ⌜ (writes ≡ true → Writable (paperRecord from) (now history) (now out)) ⌝ }
+    ensures { λ r. ⌜ Walks (paperRecord from) (now (history .entry)) writes (now (out .entry)) (now (out .exit)) r ⌝ }
 {
     let mut held = from;
     let mut i: usize = 0;
@@ -407,13 +384,16 @@ fn write_severities(history: &[u8], out: &mut [u8], from: Record)
             Stepped::Given(new) => {
                 held = new;
             }
-            Stepped::Refused(_, _) => {
-                return;
+            Stepped::Refused(number, _) => {
+                return Listed::Refused(number, i);
             }
         }
-        out[i] = held.severity;
+        if writes {
+            out[i] = held.severity;
+        }
         i += 1;
     }
+    Listed::Given(i)
 }
 
 // "From a fresh record, the severity after each byte is written to a lent buffer, the rest of which stays."
@@ -421,15 +401,14 @@ pub fn list_severities(history: &[u8], out: &mut [u8]) -> Listed
     ensures { λ r. ⌜ Lists (now (history .entry)) (now (out .entry)) (now (out .exit)) r ⌝ }
 {
     let first = fresh();
-    let checked = check_history(history, first);
+    let checked = walk_history(history, out, first, false);
     match checked {
         Listed::Refused(number, place) => Listed::Refused(number, place),
         Listed::Given(count) => {
             if out.len() < count {
                 return Listed::Refused(11, 0);
             }
-            write_severities(history, out, first);
-            Listed::Given(count)
+            walk_history(history, out, first, true)
         }
     }
 }
