@@ -1,13 +1,17 @@
--- A box as the code reads it: a cell below 254 is a number, 254 an arrow down, 255 an arrow up; and what each makes of
--- a landing.
+-- A box as the code reads it: a cell below 254 is a number, 254 an arrow down, 255 an arrow up; what each makes of a
+-- landing, and the plan there.
 -- Assumes nothing.
 use Prim.Native.Nat.{ℕ, _+_, _-_, _≤_, _<_}
 use mathlib.Core.Path.{_≡_, ap, sym, _∙_}
+use mathlib.Core.Bool.{Bool, true, false, cond}
 use native.Mathlib.Omega.{arith}
+use lib.Dec.{eqb}
+use lib.ListN.{getD}
 use borrow.Author.Tests.{eq-eqb, ne-eqb}
-use Rattle.rules.specs.Single.{down, up, number, boxAt, landed, landing, acOf}
-use Rattle.rules.proofs.Bounded.{by-le}
-use Rattle.rules.proofs.Tables.{up-positive}
+use Rattle.rules.specs.Single.{down, up, number, boxAt, Landing, landed, landing, landingOf, acOf}
+use Rattle.rules.specs.Single.{sizes, cutTo, planAt}
+use Rattle.rules.proofs.Bounded.{by-le, never}
+use Rattle.rules.proofs.Tables.{up-positive, landing-box}
 use Rattle.rules.proofs.Landing.{landing-number, landing-down, landing-up, landing-last-down, landing-last-up}
 use Rattle.plans.specs.Paper.{boxIn, arrowTo}
 
@@ -19,6 +23,15 @@ cell-down cell e = rw (eq-eqb cell 254 e)
 
 cell-up : (cell : ℕ) → 254 < cell → cell < 256 → boxIn cell ≡ up
 cell-up cell h g = rw (ne-eqb cell 254 (λ e. omega arith), eq-eqb cell 255 (omega arith))
+
+-- a cell that is read as a number is that number
+cell-held : (cell ac : ℕ) → boxIn cell ≡ number ac → cell ≡ ac
+cell-held cell ac = go (eqb cell 254) (eqb cell 255)
+  where
+    go : (d u : Bool) → cond d down (cond u up (number cell)) ≡ number ac → cell ≡ ac
+    go true u e = never cc
+    go false true e = never cc
+    go false false e = cc
 
 -- an arrow has no Ac
 pub cell-arrow : (cell : ℕ) → 254 ≤ cell → cell < 256 → acOf (boxIn cell) ≡ 0
@@ -36,6 +49,10 @@ pub arrow-near : (cell letter : ℕ) → 254 ≤ cell → arrowTo cell letter �
 arrow-near cell letter h =
     by-le cell 254 (λ p. omega (arith, arrow-down cell letter (omega arith)))
     (λ p. omega (arith, arrow-up cell letter (λ q. omega arith)))
+
+-- landings that are one have one letter
+pub same-letter : {a b : Landing} → a ≡ b → a .letter ≡ b .letter
+same-letter e = ap (λ (l : Landing). l .letter) e
 
 module _ (severity column letter cell : ℕ) (e : boxIn cell ≡ boxAt severity column letter) where
   pub lands : (left : ℕ) → cell < 254 → landed letter cell ≡ landing left severity column letter
@@ -65,3 +82,13 @@ module _ (severity column letter cell : ℕ) (e : boxIn cell ≡ boxAt severity 
         by-le cell 254
         (λ p. rw (arrow-down cell letter (omega arith)) (sym (landing-last-down severity column letter (at-down p))))
         (λ p. rw (arrow-up cell letter (λ q. omega arith)) (sym (landing-last-up severity column letter (at-up p))))
+
+-- the plan at the letter where the arrows end: its Ac is read from the box there
+pub plan-there : (severity size column letter at n cell : ℕ) → severity < 2 → column < 26 → letter < 16
+    → at ≡ landingOf severity column letter .letter → n ≡ cutTo size (getD sizes at 0)
+    → boxIn cell ≡ boxAt severity column at
+    → record { letter = at; n = n; ac = cell } ≡ planAt size (landingOf severity column letter)
+plan-there severity size column letter at n cell v c l e cut box =
+    let m = cut ∙ ap (λ (x : ℕ). cutTo size (getD sizes x 0)) e in
+    let ac = cell-held cell _ (box ∙ ap (boxAt severity column) e ∙ landing-box severity column letter v c l) in
+    cc

@@ -1,10 +1,11 @@
--- The code's rows are those of the master table, each proved once for both severities by one computed test; then the
--- box that a row gives at a letter.
+-- The code's rows are those of the master table: each arm of a match computes the row of its s; then the box that a row
+-- gives at a letter.
 -- Assumes nothing.
-use Prim.Native.Nat.{ℕ, _+_, _-_, _≤_, _<_}
-use mathlib.Core.Path.{_≡_, refl, ap}
+use Prim.Native.Nat.{ℕ, zero, suc, _+_, _≤_, _<_}
+use mathlib.Core.Path.{_≡_, refl, ap, sym}
 use mathlib.Core.Bool.{Bool, true, false, cond, _&&_, and-false}
-use mathlib.Core.List.{List, []}
+use mathlib.Core.List.{[]}
+use native.Mathlib.Nat.{le-antisymm, le-of-suc-le-suc}
 use native.Mathlib.Omega.{arith}
 use lib.Dec.{T, leb, leb→le, eqb, eqb→eq}
 use borrow.Author.Tests.{le-leb, lt-leb}
@@ -12,8 +13,7 @@ use lib.ListN.{length, getD, List·getD-eq-default}
 use Rattle.rules.specs.Single as paper
 use Rattle.rules.specs.Single.{Box, down, up, number, rowAt, boxAt, masterTable}
 use Rattle.rules.proofs.Bounded.{both-left, both-right, all, all-at, all-at₂}
-use Rattle.plans.specs.declared.Row.{Row}
-use Rattle.plans.specs.Tables.{row, master}
+use Rattle.plans.specs.Tables.{row}
 use Rattle.plans.specs.Paper.{boxIn, rowPaper}
 
 sameBox : Box → Box → Bool
@@ -63,18 +63,21 @@ same-row a b t =
     (same-box _ _ (both-left (sameBox (a .there) (b .there)) (sameBox (a .elsewhere) (b .elsewhere)) q))
     (same-box _ _ (both-right (sameBox (a .there) (b .there)) (sameBox (a .elsewhere) (b .elsewhere)) q))
 
-module _ (rows : List Row) (none : Row) where
-  held : ℕ → ℕ → Bool
-  held severity place = sameRow (rowPaper (getD (getD master severity rows) place none)) (rowAt severity (place + 14))
+-- the row of s in the arm of k ..
+pub row-in-arm : {s k : ℕ} (severity : ℕ) → s ≡ k → rowAt severity k ≡ rowAt severity s
+row-in-arm severity e = ap (rowAt severity) (sym e)
 
-  held-all : T (all 2 (λ severity. all 13 (held severity)))
-  unfolding held sameRow sameBox
-  held-all = tt
+-- .. and in the last arm, where s is none of the 12 numbers from 14 on
+abbrev pub NoneOf : ℕ → ℕ → ℕ → Type 0
+NoneOf s k zero = Unit {0}
+NoneOf s k (suc n) = NoneOf s k n × (s ≡ k + n → ⊥)
 
-  pub row-held : (severity place : ℕ) → severity < 2 → place < 13
-      → rowPaper (getD (getD master severity rows) place none) ≡ rowAt severity (place + 14)
-  unfolding held
-  row-held severity place v p = same-row _ _ (all-at₂ 2 13 held held-all severity place v p)
+past : (s k n : ℕ) → k ≤ s → NoneOf s k n → k + n ≤ s
+past s k zero h u = omega arith
+past s k (suc n) h u = let p = past s k n h (u .0) in let other : s ≡ k + n → ⊥ = u .1 in omega arith
+
+pub row-in-last : (severity s : ℕ) → 14 ≤ s → s < 27 → NoneOf s 14 12 → rowAt severity 26 ≡ rowAt severity s
+row-in-last severity s h g u = row-in-arm severity (le-antisymm (le-of-suc-le-suc g) (past s 14 12 h u))
 
 -- "under 14" and "under 15": down; the code's rows hold the tightened 14
 downThere : ℕ → ℕ → Bool

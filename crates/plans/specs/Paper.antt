@@ -3,7 +3,6 @@ use Prim.Native.Nat.{ℕ, _+_, _-_}
 use mathlib.Core.Bool.{cond}
 use lib.Dec.{eqb}
 use Rattle.plans.specs.declared.Row.{Row}
-use Rattle.plans.specs.declared.Landing.{Landing}
 use Rattle.plans.specs.declared.SinglePlan.{SinglePlan}
 use Rattle.plans.specs.declared.LetterAnswer.{LetterAnswer}
 use Rattle.plans.specs.declared.LetterAnswer.the-variants as letters
@@ -26,9 +25,6 @@ rowPaper r = record { first = r .0; last = r .1; there = boxIn (r .2); elsewhere
 -- the letter that an arrow goes to
 abbrev pub arrowTo : ℕ → ℕ → ℕ
 arrowTo arrow letter = cond (eqb arrow 254) (letter + 1) (letter - 1)
-
-abbrev pub landingPaper : Landing → paper.Landing
-landingPaper l = paper.landed (l .letter) (l .ac)
 
 abbrev pub planPaper : SinglePlan → paper.Plan
 planPaper p = record { letter = p .letter; n = p .n; ac = p .ac }

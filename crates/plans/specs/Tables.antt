@@ -1,4 +1,5 @@
--- The code's tables as lists: `proofs/` shows that they are those of rules. Definitions only.
+-- The code's letters as lists, which `proofs/` shows to be those of rules, and a row of the code by its numbers.
+-- Definitions only.
 use Prim.Native.Nat.{ℕ}
 use mathlib.Core.List.{List, [], _∷_}
 use Rattle.plans.specs.declared.Row.{Row}
@@ -25,34 +26,3 @@ letters =
 
 abbrev pub row : ℕ → ℕ → ℕ → ℕ → Row
 row first last there elsewhere = record { 0 = first; 1 = last; 2 = there; 3 = elsewhere }
-
--- the code's rows, of s from 14 to 26
-abbrev pub master : List (List Row)
-master =
-    (row 0 0 0 0
-    ∷ row 0 0 254 255
-    ∷ row 15 15 255 254
-    ∷ row 0 0 1 1
-    ∷ row 0 0 2 2
-    ∷ row 0 0 3 3
-    ∷ row 0 0 5 5
-    ∷ row 0 0 7 7
-    ∷ row 0 0 10 10
-    ∷ row 0 0 14 14
-    ∷ row 0 0 21 21
-    ∷ row 0 4 30 255
-    ∷ row 0 4 44 255 ∷ [])
-    ∷ (row 0 0 254 254
-    ∷ row 0 0 0 0
-    ∷ row 0 0 254 255
-    ∷ row 0 0 254 254
-    ∷ row 0 0 1 1
-    ∷ row 0 0 2 2
-    ∷ row 0 0 3 3
-    ∷ row 0 0 5 5
-    ∷ row 0 0 8 8
-    ∷ row 0 0 12 12
-    ∷ row 0 0 18 18
-    ∷ row 0 4 27 255
-    ∷ row 0 4 41 255 ∷ [])
-    ∷ []

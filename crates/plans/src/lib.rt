@@ -5,7 +5,7 @@ ghost use Rattle.rules.specs.Codes.{rowOf, tableOneLetter};
 ghost use Rattle.rules.specs.Single.{rowAt, boxAt, landing, landingOf, cutTo, planAt, tighterAc};
 ghost use Rattle.rules.specs.Entries.{askedLetter, plainPlan};
 ghost use Rattle.plans.specs.Paper.{asked, boxIn, rowPaper, arrowTo};
-ghost use Rattle.plans.specs.Paper.{landingPaper, planPaper, letterPaper, paperOf};
+ghost use Rattle.plans.specs.Paper.{planPaper, letterPaper, paperOf};
 
 // Table 1: the last size of each row but the last ..
 const UP_TO: [u32; 14] = [
@@ -73,46 +73,6 @@ const UP: u8 = 255;
 // fourth that of all other letters.
 struct Row(u8, u8, u8, u8);
 
-// The rows of s from 14 to 26, normal and tightened.
-const MASTER: [[Row; 13]; 2] = [
-    [
-        Row(0, 0, 0, 0),
-        Row(0, 0, DOWN, UP),
-        Row(15, 15, UP, DOWN),
-        Row(0, 0, 1, 1),
-        Row(0, 0, 2, 2),
-        Row(0, 0, 3, 3),
-        Row(0, 0, 5, 5),
-        Row(0, 0, 7, 7),
-        Row(0, 0, 10, 10),
-        Row(0, 0, 14, 14),
-        Row(0, 0, 21, 21),
-        Row(0, 4, 30, UP),
-        Row(0, 4, 44, UP),
-    ],
-    [
-        Row(0, 0, DOWN, DOWN),
-        Row(0, 0, 0, 0),
-        Row(0, 0, DOWN, UP),
-        Row(0, 0, DOWN, DOWN),
-        Row(0, 0, 1, 1),
-        Row(0, 0, 2, 2),
-        Row(0, 0, 3, 3),
-        Row(0, 0, 5, 5),
-        Row(0, 0, 8, 8),
-        Row(0, 0, 12, 12),
-        Row(0, 0, 18, 18),
-        Row(0, 4, 27, UP),
-        Row(0, 4, 41, UP),
-    ],
-];
-
-// Where the arrows end.
-struct Landing {
-    letter: u8,
-    ac: u16,
-}
-
 pub struct SinglePlan {
     pub letter: u8,
     pub n: u16,
@@ -178,13 +138,57 @@ pub fn asked_letter(severity: u32, size: u32, level: u32, column: u32) -> Letter
     }
 }
 
+// The rows of s from 14 to 26: matches, as a constant array is built anew on the stack at each use.
+fn normal_row(s: u64) -> Row
+    requires { ⌜ (14 ≤ s) × (s < 27) ⌝ }
+    ensures { λ r. ⌜ rowPaper r ≡ rowAt 0 s ⌝ }
+{
+    match s {
+        14 => Row(0, 0, 0, 0),
+        15 => Row(0, 0, DOWN, UP),
+        16 => Row(15, 15, UP, DOWN),
+        17 => Row(0, 0, 1, 1),
+        18 => Row(0, 0, 2, 2),
+        19 => Row(0, 0, 3, 3),
+        20 => Row(0, 0, 5, 5),
+        21 => Row(0, 0, 7, 7),
+        22 => Row(0, 0, 10, 10),
+        23 => Row(0, 0, 14, 14),
+        24 => Row(0, 0, 21, 21),
+        25 => Row(0, 4, 30, UP),
+        _ => Row(0, 4, 44, UP),
+    }
+}
+
+fn tightened_row(s: u64) -> Row
+    requires { ⌜ (14 ≤ s) × (s < 27) ⌝ }
+    ensures { λ r. ⌜ rowPaper r ≡ rowAt 1 s ⌝ }
+{
+    match s {
+        14 => Row(0, 0, DOWN, DOWN),
+        15 => Row(0, 0, 0, 0),
+        16 => Row(0, 0, DOWN, UP),
+        17 => Row(0, 0, DOWN, DOWN),
+        18 => Row(0, 0, 1, 1),
+        19 => Row(0, 0, 2, 2),
+        20 => Row(0, 0, 3, 3),
+        21 => Row(0, 0, 5, 5),
+        22 => Row(0, 0, 8, 8),
+        23 => Row(0, 0, 12, 12),
+        24 => Row(0, 0, 18, 18),
+        25 => Row(0, 4, 27, UP),
+        _ => Row(0, 4, 41, UP),
+    }
+}
+
 fn row_at(severity: u32, s: u64) -> Row
     requires { ⌜ (severity < 2) × (14 ≤ s) × (s < 27) ⌝ }
     ensures { λ r. ⌜ rowPaper r ≡ rowAt severity s ⌝ }
 {
-    let table = severity as usize;
-    let place = (s - 14) as usize;
-    MASTER[table][place]
+    if severity == 0 {
+        return normal_row(s);
+    }
+    tightened_row(s)
 }
 
 // The box of a master table, at any letter and column.
@@ -220,24 +224,18 @@ fn arrow_to(arrow: u8, letter: u8) -> u8
     letter - 1
 }
 
-// Follows the arrows from a letter, with so many arrows left after the first.
-fn land(severity: u32, column: u32, letter: u8, left: u8) -> Landing
+// The letter where the arrows from a letter end, with so many arrows left after the first.
+fn land(severity: u32, column: u32, letter: u8, left: u8) -> u8
     requires { ⌜ (severity < 2) × (column < 26) × (letter + left < 200) ⌝ }
-    ensures { λ r. ⌜ landingPaper r ≡ landing left severity column letter ⌝ }
+    ensures { λ r. ⌜ r ≡ landing left severity column letter .letter ⌝ }
 {
     let cell = box_at(severity, column, letter);
     if cell < DOWN {
-        return Landing {
-            letter,
-            ac: cell as u16,
-        };
+        return letter;
     }
     let next = arrow_to(cell, letter);
     if left == 0 {
-        return Landing {
-            letter: next,
-            ac: 0,
-        };
+        return next;
     }
     land(severity, column, next, left - 1)
 }
@@ -257,13 +255,10 @@ fn plan_from(severity: u32, size: u32, column: u32, letter: u8) -> SinglePlan
     ensures { λ r. ⌜ planPaper r ≡ planAt size (landingOf severity column letter) ⌝ }
 {
     let at = land(severity, column, letter, 15);
-    let row = at.letter as usize;
+    let row = at as usize;
     let n = cut(size, SIZES[row]);
-    SinglePlan {
-        letter: at.letter,
-        n,
-        ac: at.ac,
-    }
+    let ac = box_at(severity, column, at) as u16;
+    SinglePlan { letter: at, n, ac }
 }
 
 // The single plan of a bench without a book.

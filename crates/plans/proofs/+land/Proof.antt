@@ -6,8 +6,8 @@ use borrow.Author.Needs.{needs}
 use borrow.Fn.Kinds.{In}
 use borrow.Fn.PlainCycle.{Measures, is, falls, and}
 use native.Mathlib.Omega.{arith}
-use Rattle.rules.specs.Single.{landed, landing}
-use Rattle.plans.proofs.Arrows.{lands, goes-up, goes, goes-last, arrow-near}
+use Rattle.rules.specs.Single.{landing}
+use Rattle.plans.proofs.Arrows.{same-letter, lands, goes-up, goes, goes-last, arrow-near}
 use Rattle.plans.proofs.land.Reads as land
 use Rattle.plans.proofs.land.Kinds as land-kinds
 use Rattle.plans.proofs.+land.Lts-land as land-lts
@@ -34,14 +34,12 @@ module _ (t : ℕ) where
   box-at-requires : land-lts.Need-box-at-requires (calls t) (land-at t) land.Post
   box-at-requires c κs = search needs
 
-  cast-t8 : land-lts.Need-cast-t8 (calls t) (land-at t) land.Post
-  cast-t8 c = search needs
-
   returns : land-lts.Need-returns (calls t) (land-at t) land.Post
   returns c =
       let a = c .before .before .args in
       let box = c .before .box-at in
-      lands (a .severity) (a .column) (a .letter) (box .result) (box .ensures) (a .left) (c .if1 .taken)
+      same-letter
+      (lands (a .severity) (a .column) (a .letter) (box .result) (box .ensures) (a .left) (c .if1 .taken))
 
   arrow-to-requires : land-lts.Need-arrow-to-requires (calls t) (land-at t) land.Post
   arrow-to-requires c κs =
@@ -56,10 +54,11 @@ module _ (t : ℕ) where
   returns-2 c =
       let a = c .before .before .before .before .args in
       let box = c .before .before .before .box-at in
-      ap (λ (l : ℕ). landed l 0) (c .before .arrow-to .ensures)
-      ∙ goes-last (a .severity) (a .column) (a .letter) (box .result) (box .ensures)
+      c .before .arrow-to .ensures
+      ∙ same-letter
+      (goes-last (a .severity) (a .column) (a .letter) (box .result) (box .ensures)
       (c .before .before .if1 .left) (omega arith)
-      ∙ ap (λ (k : ℕ). landing k (a .severity) (a .column) (a .letter)) (sym (c .if2 .taken))
+      ∙ ap (λ (k : ℕ). landing k (a .severity) (a .column) (a .letter)) (sym (c .if2 .taken)))
 
   sub-land : land-lts.Need-sub-land (calls t) (land-at t) land.Post
   sub-land c = search needs
@@ -75,13 +74,14 @@ module _ (t : ℕ) where
       let a = c .before .before .before .before .before .args in
       let box = c .before .before .before .before .box-at in
       c .land .ensures
-      ∙ ap (landing (a .left - 1) (a .severity) (a .column)) (c .before .before .arrow-to .ensures)
+      ∙ same-letter
+      (ap (landing (a .left - 1) (a .severity) (a .column)) (c .before .before .arrow-to .ensures)
       ∙ goes (a .severity) (a .column) (a .letter) (box .result) (box .ensures)
-      (c .before .before .before .if1 .left) (omega arith) (a .left) (omega arith)
+      (c .before .before .before .if1 .left) (omega arith) (a .left) (omega arith))
 
 pub +land-spec : {M : Type 1} → statement M
 +land-spec =
     close μ-land
     λ t.
-    land-lts.spec (calls t) (land-at t) land.Post (box-at-requires t) (cast-t8 t) (returns t) (arrow-to-requires t)
+    land-lts.spec (calls t) (land-at t) land.Post (box-at-requires t) (returns t) (arrow-to-requires t)
     (returns-2 t) (sub-land t) (land-requires t) (returns-3 t)

@@ -1,15 +1,22 @@
--- `plans::plan_from` meets its contract. Assumes nothing.
-use Prim.Native.Nat.{ℕ}
-use mathlib.Core.Path.{ap, _∙_}
+-- `plans::plan_from` meets its contract: the size and the Ac are those of the letter where the arrows end.
+-- Assumes nothing.
+use mathlib.Core.Path.{_≡_}
 use borrow.Author.Needs.{needs}
 use native.Mathlib.Omega.{arith}
-use Rattle.rules.specs.Single.{Landing, planAt}
+use Rattle.rules.specs.Single.{landingOf}
 use Rattle.rules.proofs.Tables.{landing-letter}
+use Rattle.plans.proofs.Arrows.{plan-there}
 use Rattle.plans.proofs.plan_from.Statement.{statement}
 use Rattle.plans.proofs.plan_from.Tie as tie
 
 land-requires : tie.Need-land-requires
 land-requires c κs = search needs
+
+-- all arrows are followed
+ended : (c : tie.After-land)
+    → c .land .result
+    ≡ landingOf (c .before .args .severity) (c .before .args .column) (c .before .args .letter) .letter
+ended c = c .land .ensures
 
 cast-row : tie.Need-cast-row
 cast-row c = search needs
@@ -19,21 +26,26 @@ mul-cut c = search needs
 
 array-read-cut : tie.Need-array-read-cut
 array-read-cut c =
-    let a = c .before .before .args in
-    omega (
-      arith,
-      ap (λ (l : Landing). l .letter) (c .before .land .ensures),
-      landing-letter (a .severity) (a .column) (a .letter) (omega arith) (omega arith) (omega arith),
-    )
+    let a = c .before .args in
+    let at = landing-letter (a .severity) (a .column) (a .letter) (omega arith) (omega arith) (omega arith) in
+    omega (arith, ended c)
 
 cut-requires : tie.Need-cut-requires
 cut-requires c κs = search needs
 
+box-at-requires : tie.Need-box-at-requires
+box-at-requires c κs = search needs
+
+cast-ac : tie.Need-cast-ac
+cast-ac c = search needs
+
 returns : tie.Need-returns
 returns c =
-    let at = c .before .before .land in
-    ap (λ (n : ℕ). record { letter = at .result .letter; n = n; ac = at .result .ac }) (c .cut .ensures)
-    ∙ ap (planAt (c .before .before .before .args .size)) (at .ensures)
+    let a = c .before .before .before .args in
+    plan-there (a .severity) (a .size) (a .column) (a .letter) _ _ _ (omega arith) (omega arith) (omega arith)
+    (ended (c .before .before)) (c .before .cut .ensures) (c .box-at .ensures)
 
 pub plan-from-spec : {M : Type 1} → statement M
-plan-from-spec = tie.close (tie.spec land-requires cast-row mul-cut array-read-cut cut-requires returns)
+plan-from-spec =
+    tie.close
+    (tie.spec land-requires cast-row mul-cut array-read-cut cut-requires box-at-requires cast-ac returns)

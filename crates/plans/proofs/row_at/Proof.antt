@@ -1,33 +1,21 @@
--- `plans::row_at` meets its contract: the code's rows are those of the master table. Assumes nothing.
-use Prim.Native.Nat.{_-_}
-use mathlib.Core.Path.{ap, _∙_}
+-- `plans::row_at` meets its contract: the rows of severity 0, else of 1. Assumes nothing.
+use mathlib.Core.Path.{_≡_}
 use borrow.Author.Needs.{needs}
 use native.Mathlib.Omega.{arith}
-use Rattle.rules.specs.Single.{rowAt}
-use Rattle.plans.proofs.Master.{row-held}
 use Rattle.plans.proofs.row_at.Statement.{statement}
 use Rattle.plans.proofs.row_at.Tie as tie
 
-sub-place : tie.Need-sub-place
-sub-place c = search needs
-
-mul-result : tie.Need-mul-result
-mul-result c = search needs
-
-mul-result-2 : tie.Need-mul-result-2
-mul-result-2 c = search needs
-
-index-1-result : tie.Need-index-1-result
-index-1-result c = search needs
-
-index-2-result : tie.Need-index-2-result
-index-2-result c = search needs
+normal-row-requires : tie.Need-normal-row-requires
+normal-row-requires c κs = search needs
 
 returns : tie.Need-returns
-returns c =
-    let a = c .before .args in
-    row-held _ _ (a .severity) (a .s - 14) (omega arith) (omega arith) ∙ ap (rowAt (a .severity)) (omega arith)
+returns c = rw (c .before .if1 .taken) (c .normal-row .ensures)
+
+tightened-row-requires : tie.Need-tightened-row-requires
+tightened-row-requires c κs = search needs
+
+returns-2 : tie.Need-returns-2
+returns-2 c = let e : c .before .before .args .severity ≡ 1 = omega arith in rw e (c .tightened-row .ensures)
 
 pub row-at-spec : {M : Type 1} → statement M
-row-at-spec =
-    tie.close (tie.spec sub-place mul-result mul-result-2 index-1-result index-2-result returns)
+row-at-spec = tie.close (tie.spec normal-row-requires returns tightened-row-requires returns-2)
