@@ -1,13 +1,14 @@
 -- Each promise of `book` admits one result: two answers that are the same on paper are the same.
 -- Assumes nothing.
 use Prim.Native.Nat.{ℕ}
-use mathlib.Core.Path.{_≡_, refl, ap, sym, _∙_}
+use mathlib.Core.Path.{_≡_, refl, ap}
 use mathlib.Core.List.{List}
 use Rattle.rules.specs.Refusals.{Answer, refused, given}
 use Rattle.rules.specs.Staged.{StagedPlan}
 use Rattle.rules.specs.Sequential.{SequentialPlan}
 use Rattle.rules.specs.Variables.{VariablesPlan}
 use Rattle.rules.specs.Book.{ReducedSingle}
+use Rattle.rules.proofs.Answers.{read-back}
 use Rattle.book.specs.Paper.{bookPaper, reducedPaper, sequentialPaper, variablesPaper, stagedAnswer, stagedPaper}
 use Rattle.book.specs.Paper.{Beside}
 use Rattle.book.specs.declared.BookAnswer.{BookAnswer}
@@ -22,18 +23,13 @@ use Rattle.book.specs.declared.StagedAnswer.{StagedAnswer}
 use Rattle.book.specs.declared.StagedAnswer.the-variants as staged
 use Rattle.book.specs.declared.StagedFound.{StagedFound}
 
--- what can be read back is one
-one-by : {A B : Type 0} (paper : A → B) (back : B → A) → ((a : A) → back (paper a) ≡ a) → (a b : A) → paper a ≡ paper b
-    → a ≡ b
-one-by paper back is a b h = sym (is a) ∙ ap back h ∙ is b
-
 bookBack : Answer (Unit {0}) → BookAnswer
 bookBack (refused n p) = book.Refused n p
 bookBack (given t) = book.Sound
 
 pub book-one : (a b : BookAnswer) → bookPaper a ≡ bookPaper b → a ≡ b
 unfolding bookBack
-book-one = one-by bookPaper bookBack is
+book-one = read-back bookPaper bookBack is
   where
     is : (a : BookAnswer) → bookBack (bookPaper a) ≡ a
     is (book.Refused n p) = refl
@@ -45,7 +41,7 @@ reducedBack (given plan) = reduced.Given (plan .n) (plan .ac)
 
 pub reduced-one : (a b : ReducedAnswer) → reducedPaper a ≡ reducedPaper b → a ≡ b
 unfolding reducedBack
-reduced-one = one-by reducedPaper reducedBack is
+reduced-one = read-back reducedPaper reducedBack is
   where
     is : (a : ReducedAnswer) → reducedBack (reducedPaper a) ≡ a
     is (reduced.Refused n p) = refl
@@ -57,7 +53,7 @@ sequentialBack (given plan) = sequential.Given (plan .hA) (plan .hR) (plan .g) (
 
 pub sequential-one : (a b : SequentialAnswer) → sequentialPaper a ≡ sequentialPaper b → a ≡ b
 unfolding sequentialBack
-sequential-one = one-by sequentialPaper sequentialBack is
+sequential-one = read-back sequentialPaper sequentialBack is
   where
     is : (a : SequentialAnswer) → sequentialBack (sequentialPaper a) ≡ a
     is (sequential.Refused n p) = refl
@@ -69,7 +65,7 @@ variablesBack (given plan) = variables.Given (plan .n) (plan .k)
 
 pub variables-one : (a b : VariablesAnswer) → variablesPaper a ≡ variablesPaper b → a ≡ b
 unfolding variablesBack
-variables-one = one-by variablesPaper variablesBack is
+variables-one = read-back variablesPaper variablesBack is
   where
     is : (a : VariablesAnswer) → variablesBack (variablesPaper a) ≡ a
     is (variables.Refused n p) = refl
@@ -85,7 +81,7 @@ stagedBack r = record { answer = answerBack (r .answer); sizes = r .sizes; acs =
 -- the arrays beside an answer are promised too
 pub staged-one : (a b : StagedFound) → stagedPaper a ≡ stagedPaper b → a ≡ b
 unfolding stagedBack answerBack
-staged-one = one-by stagedPaper stagedBack is
+staged-one = read-back stagedPaper stagedBack is
   where
     same : (x : StagedAnswer) (sizes acs res : List ℕ) → answerBack (stagedAnswer x sizes acs res) ≡ x
     same (staged.Refused n p) sizes acs res = refl

@@ -1,9 +1,10 @@
 -- Document 01's answer tells the code's, so each promise `paperOf r ≡ ..` and `shownOn r ≡ ..` admits a single r.
 -- Assumes nothing.
-use mathlib.Core.Path.{_≡_, refl, sym, _∙_, ap}
+use mathlib.Core.Path.{_≡_, refl}
 use Rattle.rules.specs.Refusals.{Answer, refused, given}
 use Rattle.rules.specs.Variables as rules
 use Rattle.rules.specs.Screen as screens
+use Rattle.rules.proofs.Answers.{read-back}
 use Rattle.gauge.specs.declared.ReadingsVerdict as verdicts
 use Rattle.gauge.specs.declared.Shown as shown
 use Rattle.gauge.specs.Paper.{paperOf, shownOn}
@@ -18,7 +19,7 @@ verdict-back (verdicts.the-variants.Refused n p) = refl
 verdict-back (verdicts.the-variants.Judged g) = refl
 
 pub verdict-one : (a b : verdicts.ReadingsVerdict) → paperOf a ≡ paperOf b → a ≡ b
-verdict-one a b e = sym (verdict-back a) ∙ ap verdict e ∙ verdict-back b
+verdict-one = read-back paperOf verdict verdict-back
 
 display : Answer screens.Shown → shown.Shown
 display (refused n p) = shown.the-variants.Refused n p
@@ -33,4 +34,4 @@ display-back (shown.the-variants.Mean m) = refl
 display-back (shown.the-variants.MeanAndVariance f) = refl
 
 pub shown-one : (a b : shown.Shown) → shownOn a ≡ shownOn b → a ≡ b
-shown-one a b e = sym (display-back a) ∙ ap display e ∙ display-back b
+shown-one = read-back shownOn display display-back

@@ -1,4 +1,4 @@
 pub mod Arrows
 pub mod Letters
 pub mod Master
-pub mod One
+pub mod OneResult

@@ -1,8 +1,9 @@
--- A refusal is not something given; what a chain of answers gives, each of its parts gave.
+-- A refusal is not something given; what a chain of answers gives, each of its parts gave; what can be read back from
+-- its paper is one.
 -- Assumes nothing.
 use Prim.Native.Nat.{ℕ}
 use mathlib.Core.Bool.{Bool, true, false, false≢true}
-use mathlib.Core.Path.{_≡_, refl, ap}
+use mathlib.Core.Path.{_≡_, refl, sym, ap, _∙_}
 use Rattle.rules.specs.Refusals.{Answer, refused, given, andThen}
 use Rattle.rules.specs.History.{placed}
 
@@ -25,3 +26,8 @@ placed-given k (given a) x e = e
 
 pub given-one : {A : Type 0} {a b : A} → given a ≡ given b → a ≡ b
 given-one e = cc
+
+-- Where `back` undoes `paper`, two values that are the same on paper are the same.
+pub read-back : {A B : Type 0} (paper : A → B) (back : B → A) → ((a : A) → back (paper a) ≡ a) → (a b : A)
+    → paper a ≡ paper b → a ≡ b
+read-back paper back undoes a b e = sym (undoes a) ∙ ap back e ∙ undoes b

@@ -110,8 +110,8 @@ planAt lot l = record { letter = l .letter; n = cutTo lot (getD sizes (l .letter
 unfoldable pub tablePlan : ℕ → ℕ → ℕ → ℕ → Plan
 tablePlan severity size level column = planAt size (landingOf severity column (letterOf size level))
 
--- "the Ac one column tighter at the letter that gives the size", normal inspection; where it is asked for, Ac 2 or more,
--- the box holds a number (proofs/Tables)
+-- "the Ac one column tighter at the letter that gives the size", normal inspection; where it is asked for, at Ac 2 or
+-- more, the box holds a number (proofs/Tables)
 abbrev pub acOf : Box → ℕ
 acOf down = 0
 acOf up = 0

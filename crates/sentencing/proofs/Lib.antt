@@ -1,5 +1,5 @@
 pub mod Judging
-pub mod One
+pub mod OneResult
 pub mod Planning
 pub mod Staging
 pub mod Taking

@@ -14,7 +14,7 @@ use Rattle.severity.specs.declared.Stepped.the-variants as stepped
 use Rattle.severity.specs.declared.Listed.{Listed}
 use Rattle.severity.specs.declared.Listed.the-variants as listing
 use Rattle.severity.specs.Paper.{paperLot, paperRecord, paperStepped, paperListed, keptOf, Closes, Lists}
-use Rattle.rules.proofs.Answers.{refused-given, given-one}
+use Rattle.rules.proofs.Answers.{refused-given, given-one, read-back}
 
 recordBack : paper.Record → Record
 recordBack r =
@@ -48,7 +48,7 @@ lot-back NotAccepted = refl
 
 -- of single_counts and staged_counts
 pub lot-one : (a b : Lot) → paperLot a ≡ paperLot b → a ≡ b
-lot-one a b e = sym (lot-back a) ∙ (ap lotBack e ∙ lot-back b)
+lot-one = read-back paperLot lotBack lot-back
 
 -- of step, update and next
 pub stepped-one : (a b : Stepped) → paperStepped a ≡ paperStepped b → a ≡ b

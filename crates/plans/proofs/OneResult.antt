@@ -1,9 +1,10 @@
 -- Each promise of an enum admits one result: answers with the same numbers and values are the same. (The other public
 -- functions promise their result itself.)
 -- Assumes nothing.
-use mathlib.Core.Path.{_≡_, refl, ap, sym, _∙_}
+use mathlib.Core.Path.{_≡_, refl}
 use Rattle.rules.specs.Refusals.{Answer, refused, given}
 use Rattle.rules.specs.Single.{Plan}
+use Rattle.rules.proofs.Answers.{read-back}
 use Rattle.plans.specs.declared.LetterAnswer.{LetterAnswer}
 use Rattle.plans.specs.declared.LetterAnswer.the-variants as letters
 use Rattle.plans.specs.declared.PlanAnswer.{PlanAnswer}
@@ -26,4 +27,4 @@ back-paper (plans.Refused n p) = refl
 back-paper (plans.Given p) = refl
 
 pub paper-one : (a b : PlanAnswer) → paperOf a ≡ paperOf b → a ≡ b
-paper-one a b e = sym (back-paper a) ∙ ap back e ∙ back-paper b
+paper-one = read-back paperOf back back-paper

@@ -1,7 +1,7 @@
 -- Each promise of a public function admits one result: answers with the same numbers and values are the same, since
 -- document 01's answer tells the code's.
 -- Assumes nothing.
-use mathlib.Core.Path.{_≡_, refl, sym, ap, _∙_}
+use mathlib.Core.Path.{_≡_, refl, ap}
 use Rattle.rules.specs.Refusals.{Answer, refused, given}
 use Rattle.rules.specs.Verdict as verdicts
 use Rattle.rules.specs.Single.{Plan}
@@ -10,6 +10,7 @@ use Rattle.rules.specs.Sequential as sequences
 use Rattle.rules.specs.Variables as gauges
 use Rattle.rules.specs.Severity as severity
 use Rattle.rules.specs.Entries.{Closed}
+use Rattle.rules.proofs.Answers.{read-back}
 use Rattle.plans.specs.declared.SinglePlan.{SinglePlan}
 use Rattle.samples.specs.declared.Verdict.{Verdict}
 use Rattle.samples.specs.declared.StagedPlan.{StagedPlan}
@@ -32,10 +33,6 @@ use Rattle.sentencing.specs.declared.StagedClosing.the-variants as stage
 use Rattle.sentencing.specs.declared.StagedClosed.{StagedClosed}
 use Rattle.sentencing.specs.Paper.{singlePaper, closedPaper, sequentialPaper, variablesPaper}
 use Rattle.sentencing.specs.Paper.{stagedAnswer, stagedJudged, closingAnswer, stagedClosed}
-
-told : {A B : Type 0} (paper : A → B) (back : B → A) → ((a : A) → back (paper a) ≡ a) → (a b : A) → paper a ≡ paper b
-    → a ≡ b
-told paper back inverse a b e = sym (inverse a) ∙ ap back e ∙ inverse b
 
 abbrev planBack : Plan → SinglePlan
 planBack p = record { letter = p .letter; n = p .n; ac = p .ac }
@@ -66,7 +63,7 @@ singleBack (given j) = single.Given (judgedBack j)
 -- of judge_single
 pub single-one : (a b : SingleAnswer) → singlePaper a ≡ singlePaper b → a ≡ b
 unfolding singleBack
-single-one = told singlePaper singleBack back
+single-one = read-back singlePaper singleBack back
   where
     back : (a : SingleAnswer) → singleBack (singlePaper a) ≡ a
     back (single.Refused n p) = refl
@@ -80,7 +77,7 @@ closedBack (given c) =
 -- of close_single and close_total
 pub closed-one : (a b : SingleClosing) → closedPaper a ≡ closedPaper b → a ≡ b
 unfolding closedBack
-closed-one = told closedPaper closedBack back
+closed-one = read-back closedPaper closedBack back
   where
     back : (a : SingleClosing) → closedBack (closedPaper a) ≡ a
     back (closing.Refused n p) = refl
@@ -99,7 +96,7 @@ sequentialBack (given j) =
 -- of judge_sequential
 pub sequential-one : (a b : SequentialAnswer) → sequentialPaper a ≡ sequentialPaper b → a ≡ b
 unfolding sequentialBack
-sequential-one = told sequentialPaper sequentialBack back
+sequential-one = read-back sequentialPaper sequentialBack back
   where
     back : (a : SequentialAnswer) → sequentialBack (sequentialPaper a) ≡ a
     back (sequential.Refused n p) = refl
@@ -117,7 +114,7 @@ variablesBack (given j) =
 -- of judge_variables
 pub variables-one : (a b : VariablesAnswer) → variablesPaper a ≡ variablesPaper b → a ≡ b
 unfolding variablesBack
-variables-one = told variablesPaper variablesBack back
+variables-one = read-back variablesPaper variablesBack back
   where
     back : (a : VariablesAnswer) → variablesBack (variablesPaper a) ≡ a
     back (variables.Refused n p) = refl
@@ -133,7 +130,7 @@ sampleBack (given j) = sample.Given (verdictBack (j .verdict))
 -- of judge_staged: the answer, and the plan beside it
 pub staged-one : (a b : StagedJudged) → stagedJudged a ≡ stagedJudged b → a ≡ b
 unfolding sampleBack
-staged-one = told stagedJudged (λ b. record { answer = sampleBack (b .answer); plan = stagedBack (b .plan) }) back
+staged-one = read-back stagedJudged (λ b. record { answer = sampleBack (b .answer); plan = stagedBack (b .plan) }) back
   where
     same : (x : SampleAnswer) (p : stages.StagedPlan) → sampleBack (stagedAnswer x p) ≡ x
     same (sample.Refused n q) p = refl
@@ -151,7 +148,7 @@ closingBack (given c) = staged-closing.Given (verdictBack (c .judged .verdict)) 
 pub staged-closed-one : (a b : StagedClosed) → stagedClosed a ≡ stagedClosed b → a ≡ b
 unfolding closingBack
 staged-closed-one =
-    told stagedClosed (λ b. record { answer = closingBack (b .answer); plan = stagedBack (b .plan) }) back
+    read-back stagedClosed (λ b. record { answer = closingBack (b .answer); plan = stagedBack (b .plan) }) back
   where
     same : (x : StagedClosing) (p : stages.StagedPlan) → closingBack (closingAnswer x p) ≡ x
     same (staged-closing.Refused n q) p = refl
