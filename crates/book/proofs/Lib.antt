@@ -1,4 +1,5 @@
 pub mod Found
 pub mod Held
 pub mod OneResult
+pub mod Ranges
 pub mod Seven

@@ -14,6 +14,7 @@ use Rattle.rules.specs.Book.{seven}
 use Rattle.rules.specs.Book as paper
 use Rattle.rules.specs.Layout.{entryOf}
 use Rattle.rules.specs.Entries.{fromEntry}
+use Rattle.book.specs.declared.Range as Ranges
 use Rattle.book.specs.declared.Walk as Walks
 use Rattle.book.specs.declared.Walk.the-variants as walk
 use Rattle.book.specs.declared.Stretch as Stretches
@@ -31,6 +32,9 @@ use Rattle.book.specs.declared.VariablesAnswer.the-variants as variables
 use Rattle.book.specs.declared.StagedAnswer.{StagedAnswer}
 use Rattle.book.specs.declared.StagedAnswer.the-variants as staged
 use Rattle.book.specs.declared.StagedFound.{StagedFound}
+
+abbrev pub rangePaper : Ranges.Range → paper.Range
+rangePaper r = record { low = r .0; high = r .1 }
 
 abbrev pub walkOf : Walks.Walk → paper.Walk
 walkOf (walk.Ends p) = paper.ends p

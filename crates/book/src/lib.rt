@@ -15,56 +15,104 @@ ghost use Rattle.rules.specs.Book.{kinds, checkBook, onSound, staged, every, se
 ghost use Rattle.rules.specs.Book.{reducedOf, stagedOf, sequentialOf, variablesOf};
 ghost use Rattle.rules.specs.Layout.{entryOf};
 ghost use Rattle.rules.specs.Entries.{reducedSection, stagedSection, sequentialSection, variablesSection};
-ghost use Rattle.book.specs.Paper.{walkOf, entryRead, risesAfter, keyAt, entryAfter, underAt};
+ghost use Rattle.book.specs.Paper.{rangePaper, walkOf, entryRead, risesAfter, keyAt, entryAfter, underAt};
 ghost use Rattle.book.specs.Paper.{foundAt, foundUnder, orElse, SectionRead, SectionsRead, heldAt, Finds, heldIn};
 ghost use Rattle.book.specs.Paper.{bookPaper, reducedPaper, sequentialPaper, variablesPaper, stagedPaper, beside};
 
-// The kinds of section are data, a row for each in the book's order.
+// The kinds of section, in order. Their tables are matches: a constant array is built anew on the stack at each use.
 const KINDS: usize = 4;
 
 // How many numbers a key has.
-const KEY: [u8; KINDS] = [2, 3, 3, 3];
-
-// How many numbers an entry has: so many, and so many more for each one that the number after its key counts.
-const FIXED: [u8; KINDS] = [4, 4, 8, 5];
-
-const EACH: [u8; KINDS] = [0, 3, 0, 0];
-
-// The ranges of the first eight numbers of an entry; past them, whatever fits.
-const LOW: [[u16; 8]; KINDS] = [
-    [0, 0, 1, 0, 0, 0, 0, 0],
-    [0, 0, 0, 2, 0, 0, 0, 0],
-    [0, 0, 0, 1, 1, 1, 1, 0],
-    [0, 0, 0, 2, 1, 0, 0, 0],
-];
-
-const HIGH: [[u16; 8]; KINDS] = [
-    [15, 25, 3150, 65534, 65535, 65535, 65535, 65535],
-    [2, 15, 25, 7, 65535, 65535, 65535, 65535],
-    [2, 15, 15, 65535, 65535, 60000, 3150, 65535],
-    [2, 15, 15, 50, 4000, 65535, 65535, 65535],
-];
-
 fn key_len(kind: usize) -> usize
     requires { ⌜ kind < length kinds ⌝ }
     ensures { λ r. ⌜ (r ≡ kindAt kind .key) × (r ≤ 3) ⌝ }
 {
-    KEY[kind] as usize
+    if kind == 0 { 2 } else { 3 }
 }
 
+// How many numbers an entry has, by the number after its key.
 fn entry_size(kind: usize, after: u64) -> usize
     requires { ⌜ (kind < length kinds) × (after < 65536) ⌝ }
     ensures { λ r. ⌜ (r ≡ kindAt kind .size after) × (r < 200000) ⌝ }
 {
-    let fixed = FIXED[kind] as usize;
-    let each = EACH[kind] as usize;
-    fixed + each * (after as usize)
+    match kind {
+        0 => 4,
+        1 => 4 + 3 * (after as usize),
+        2 => 8,
+        _ => 5,
+    }
 }
 
-fn wide(x: u16) -> u64
-    ensures { λ r. ⌜ r ≡ x ⌝ }
+// The least and the most that a number of an entry may be.
+struct Range(u64, u64);
+
+// The ranges of a reduced entry by place: letter, column, n and Ac; past them, whatever fits.
+fn reduced_range(i: usize) -> Range
+    ensures { λ r. ⌜ rangePaper r ≡ getD (kindAt reducedSection .ranges) i anything ⌝ }
 {
-    x as u64
+    match i {
+        0 => Range(0, 15),
+        1 => Range(0, 25),
+        2 => Range(1, 3150),
+        3 => Range(0, 65534),
+        _ => Range(0, 65535),
+    }
+}
+
+// Of a staged entry: severity, letter, column and stages.
+fn staged_range(i: usize) -> Range
+    ensures { λ r. ⌜ rangePaper r ≡ getD (kindAt stagedSection .ranges) i anything ⌝ }
+{
+    match i {
+        0 => Range(0, 2),
+        1 => Range(0, 15),
+        2 => Range(0, 25),
+        3 => Range(2, 7),
+        _ => Range(0, 65535),
+    }
+}
+
+// Of a sequential entry: severity, letter, column, hA, hR, g and nt.
+fn sequential_range(i: usize) -> Range
+    ensures { λ r. ⌜ rangePaper r ≡ getD (kindAt sequentialSection .ranges) i anything ⌝ }
+{
+    match i {
+        0 => Range(0, 2),
+        1 => Range(0, 15),
+        2 => Range(0, 15),
+        3 => Range(1, 65535),
+        4 => Range(1, 65535),
+        5 => Range(1, 60000),
+        6 => Range(1, 3150),
+        _ => Range(0, 65535),
+    }
+}
+
+// Of a variables entry: severity, letter, column, n and K.
+fn variables_range(i: usize) -> Range
+    ensures { λ r. ⌜ rangePaper r ≡ getD (kindAt variablesSection .ranges) i anything ⌝ }
+{
+    match i {
+        0 => Range(0, 2),
+        1 => Range(0, 15),
+        2 => Range(0, 15),
+        3 => Range(2, 50),
+        4 => Range(1, 4000),
+        _ => Range(0, 65535),
+    }
+}
+
+// The range of the number at place i of an entry of the kind.
+fn range_at(kind: usize, i: usize) -> Range
+    requires { ⌜ kind < length kinds ⌝ }
+    ensures { λ r. ⌜ rangePaper r ≡ getD (kindAt kind .ranges) i anything ⌝ }
+{
+    match kind {
+        0 => reduced_range(i),
+        1 => staged_range(i),
+        2 => sequential_range(i),
+        _ => variables_range(i),
+    }
 }
 
 // Is x within the range of the number at place i of an entry?
@@ -72,15 +120,11 @@ fn in_range(kind: usize, i: usize, x: u64) -> bool
     requires { ⌜ (kind < length kinds) × (x < 65536) ⌝ }
     ensures { λ r. ⌜ r ≡ within (getD (kindAt kind .ranges) i anything) x ⌝ }
 {
-    if 8 <= i {
-        return true;
-    }
-    let low = wide(LOW[kind][i]);
-    let high = wide(HIGH[kind][i]);
-    if x < low {
+    let held = range_at(kind, i);
+    if x < held.0 {
         return false;
     }
-    x <= high
+    x <= held.1
 }
 
 // An Ac that is a number does not fall; a mark stands only before numbers, and not at the last stage.
@@ -311,7 +355,7 @@ fn key_falls(kind: usize, part: &[u8], prev: usize, at: usize) -> bool
     true
 }
 
-// The entry at a place of a section.
+// The entry at a place of a section. Each kind goes on as a constant, so that the loop is compiled for it alone.
 fn entry_at(kind: usize, part: &[u8], prev: usize, at: usize) -> Walk
     requires { ⌜ (kind < length kinds) × ((prev ≤ at) × (at ≤ length (numbersOf (now part)))) ⌝ }
     ensures { λ r. ⌜ walkOf r ≡ entryAfter kind prev at (numbersOf (now (part .entry))) ⌝ }
@@ -320,7 +364,13 @@ fn entry_at(kind: usize, part: &[u8], prev: usize, at: usize) -> Walk
         return Walk::Broken(0);
     }
     let from = 2 * at;
-    entry_numbers(kind, &part[from..])
+    let e = &part[from..];
+    match kind {
+        0 => entry_numbers(0, e),
+        1 => entry_numbers(1, e),
+        2 => entry_numbers(2, e),
+        _ => entry_numbers(3, e),
+    }
 }
 
 // Is the entry at a place under the key?
@@ -353,7 +403,8 @@ fn first_under(
     letter: u64,
     column: u64,
 ) -> usize
-    requires { ⌜ (kind < length kinds) × ((1 ≤ at) × ((seen ≤ at) × (at + kindAt kind .key ≤ length (numbersOf (now part))))) ⌝ }
+    requires { ⌜ (kind < length kinds)
+        × ((1 ≤ at) × ((seen ≤ at) × (at + kindAt kind .key ≤ length (numbersOf (now part))))) ⌝ }
     ensures { λ r. ⌜ (r ≤ at)
         × (foundAt (kindAt kind) r (numbersOf (now (part .entry)))
         ≡ orElse (foundAt (kindAt kind) seen (numbersOf (now (part .entry))))
