@@ -12,15 +12,16 @@ ghost use Rattle.rules.specs.Entries.{onRecord, next};
 ghost use Rattle.severity.specs.Paper.{paperLot, paperEvent, paperRecord, paperStepped};
 ghost use Rattle.severity.specs.Paper.{keptOf, Closes, Writable, Walks, Lists};
 
-// The window is five bits, the newest lot in the lowest, 1 for a lot not accepted.
+// The window is five bits, the newest lot in the lowest, 1 for a lot not accepted. No two figures stand side by side:
+// the compiler would keep them as one wide number, and take it apart at every step.
 pub struct Record {
-    pub severity: u8,
     pub score: u8,
+    pub severity: u8,
     pub run: u8,
-    pub count: u8,
-    pub window: u8,
     pub steady: bool,
+    pub count: u8,
     pub permission: bool,
+    pub window: u8,
 }
 
 // How an original lot counts.
