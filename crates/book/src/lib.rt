@@ -1,16 +1,13 @@
 // The plan book of document 01. Each section is checked as its own stretch of the book, and the entry under a key is
 // found on the way.
 ghost use mathlib.Core.Path.{_≡_};
-ghost use mathlib.Core.Bool.{cond, _||_};
-ghost use lib.Dec.{eqb, ltb};
 ghost use Prim.Native.Nat.{_+_, _-_, _≤_, _<_};
 ghost use lib.ListN.{length, getD, take, drop};
 ghost use Rattle.rules.specs.Refusals.{refused, given};
 ghost use Rattle.rules.specs.Numbers.{numbersOf};
 ghost use Rattle.rules.specs.Codes.{reduced};
-ghost use Rattle.rules.specs.Staged.{mark};
 ghost use Rattle.rules.specs.Book.{kindAt, within, anything, right, keyFalls};
-ghost use Rattle.rules.specs.Book.{acKeeps, reKeeps, stagedNumber, stagedRule, atFits, sequentialRule};
+ghost use Rattle.rules.specs.Book.{stagedNumber, stagedRule, atFits, sequentialRule};
 ghost use Rattle.rules.specs.Book.{kinds, checkBook, onSound, staged, every, seven};
 ghost use Rattle.rules.specs.Book.{reducedOf, stagedOf, sequentialOf, variablesOf};
 ghost use Rattle.rules.specs.Layout.{entryOf};
@@ -44,7 +41,7 @@ fn entry_size(kind: usize, after: u64) -> usize
 }
 
 // The least and the most that a number of an entry may be.
-struct Range(u64, u64);
+struct Range(u16, u16);
 
 // The ranges of a reduced entry by place: letter, column, n and Ac; past them, whatever fits.
 fn reduced_range(i: usize) -> Range
@@ -116,8 +113,8 @@ fn range_at(kind: usize, i: usize) -> Range
 }
 
 // Is x within the range of the number at place i of an entry?
-fn in_range(kind: usize, i: usize, x: u64) -> bool
-    requires { ⌜ (kind < length kinds) × (x < 65536) ⌝ }
+fn in_range(kind: usize, i: usize, x: u16) -> bool
+    requires { ⌜ kind < length kinds ⌝ }
     ensures { λ r. ⌜ r ≡ within (getD (kindAt kind .ranges) i anything) x ⌝ }
 {
     let held = range_at(kind, i);
@@ -127,92 +124,42 @@ fn in_range(kind: usize, i: usize, x: u64) -> bool
     x <= held.1
 }
 
-// An Ac that is a number does not fall; a mark stands only before numbers, and not at the last stage.
-fn ac_keeps(first: bool, last: bool, before: u64, ac: u64) -> bool
-    ensures { λ r. ⌜ r ≡ acKeeps first last before ac ⌝ }
-{
-    if ac == 65535 {
-        if last {
-            return false;
-        }
-        if first {
-            return true;
-        }
-        return before == 65535;
-    }
-    if first {
-        return true;
-    }
-    if before == 65535 {
-        return true;
-    }
-    before <= ac
-}
-
-// Re does not fall, and keeps its rule with Ac.
-fn re_keeps(first: bool, last: bool, before: u64, ac: u64, re: u64) -> bool
-    requires { ⌜ ac < 65536 ⌝ }
-    ensures { λ r. ⌜ r ≡ reKeeps first last before ac re ⌝ }
-{
-    if 65534 < re {
-        return false;
-    }
-    if first {
-        return re_over(last, ac, re);
-    }
-    if re < before {
-        return false;
-    }
-    re_over(last, ac, re)
-}
-
-// Re is over Ac, at the last stage by one; a mark is exempt.
-fn re_over(last: bool, ac: u64, re: u64) -> bool
-    requires { ⌜ ac < 65536 ⌝ }
-    ensures { λ r. ⌜ r ≡ (eqb ac mark || cond last (eqb re (ac + 1)) (ltb ac re)) ⌝ }
-{
-    if ac == 65535 {
-        return true;
-    }
-    if last {
-        return re == ac + 1;
-    }
-    ac < re
-}
-
 // The number x at place i of an entry of m stages, after the numbers two places and one place before it.
-fn staged_number(i: usize, m: u64, two: u64, one: u64, x: u64) -> bool
-    requires { ⌜ (m < 65536) × (one < 65536) ⌝ }
+fn staged_number(i: usize, m: u16, two: u16, one: u16, x: u16) -> bool
     ensures { λ r. ⌜ r ≡ stagedNumber i m two one x ⌝ }
 {
-    let stages = m as usize;
-    let start = 4 + stages;
+    let count = m as usize;
+    let start = 4 + count;
     if i < start {
-        if x < 1 {
-            return false;
-        }
-        return x <= 2000;
+        return stages::size_keeps(x);
     }
     let j = i - start;
     let stage = j / 2;
     let first = stage == 0;
-    let last = stage + 1 == stages;
+    let last = stage + 1 == count;
     if j % 2 == 0 {
-        return ac_keeps(first, last, two, x);
+        return stages::ac_keeps(first, last, two, x);
     }
-    re_keeps(first, last, two, one, x)
+    stages::re_keeps(first, last, two, one, x)
 }
 
-fn staged_rule(e: &[u8], i: usize, x: u64) -> bool
+// The number at a place has 16 bits.
+fn number16(e: &[u8], i: usize) -> u16
+    ensures { λ r. ⌜ r ≡ getD (numbersOf (now (e .entry))) i 0 ⌝ }
+{
+    numbers::number(e, i) as u16
+}
+
+fn staged_rule(e: &[u8], i: usize, x: u16) -> bool
     requires { ⌜ i < length (numbersOf (now e)) ⌝ }
     ensures { λ r. ⌜ r ≡ stagedRule (take i (numbersOf (now (e .entry)))) x ⌝ }
 {
     if i < 4 {
         return true;
     }
-    let m = numbers::number(e, 3);
-    let two = numbers::number(e, i - 2);
-    let one = numbers::number(e, i - 1);
+    let m = number16(e, 3);
+    let two = number16(e, i - 2);
+    let one = number16(e, i - 1);
     staged_number(i, m, two, one, x)
 }
 
@@ -237,7 +184,7 @@ fn at_fits(ha: u64, hr: u64, g: u64, nt: u64, at: u64) -> bool
     at < over / 100000
 }
 
-fn sequential_rule(e: &[u8], i: usize, x: u64) -> bool
+fn sequential_rule(e: &[u8], i: usize, x: u16) -> bool
     requires { ⌜ i < length (numbersOf (now e)) ⌝ }
     ensures { λ r. ⌜ r ≡ sequentialRule (take i (numbersOf (now (e .entry)))) x ⌝ }
 {
@@ -246,13 +193,13 @@ fn sequential_rule(e: &[u8], i: usize, x: u64) -> bool
         let hr = numbers::number(e, 4);
         let g = numbers::number(e, 5);
         let nt = numbers::number(e, 6);
-        return at_fits(ha, hr, g, nt, x);
+        return at_fits(ha, hr, g, nt, x as u64);
     }
     true
 }
 
 // Does x at place i keep the rules that it has with the entry's numbers before it?
-fn rule(kind: usize, e: &[u8], i: usize, x: u64) -> bool
+fn rule(kind: usize, e: &[u8], i: usize, x: u16) -> bool
     requires { ⌜ (kind < length kinds) × (i < length (numbersOf (now e))) ⌝ }
     ensures { λ r. ⌜ r ≡ kindAt kind .rule (take i (numbersOf (now (e .entry)))) x ⌝ }
 {
@@ -270,7 +217,7 @@ fn right_at(kind: usize, e: &[u8], i: usize) -> bool
     requires { ⌜ (kind < length kinds) × (i < length (numbersOf (now e))) ⌝ }
     ensures { λ r. ⌜ r ≡ right (kindAt kind) (numbersOf (now (e .entry))) i ⌝ }
 {
-    let x = numbers::number(e, i);
+    let x = number16(e, i);
     if in_range(kind, i, x) {
         return rule(kind, e, i, x);
     }
@@ -548,13 +495,6 @@ pub fn check_book(book: &[u8]) -> BookAnswer
         Place::Nothing => BookAnswer::Sound,
         Place::At(_) => BookAnswer::Sound,
     }
-}
-
-// The number at a place has 16 bits.
-fn number16(e: &[u8], i: usize) -> u16
-    ensures { λ r. ⌜ r ≡ getD (numbersOf (now (e .entry))) i 0 ⌝ }
-{
-    numbers::number(e, i) as u16
 }
 
 // A reduced single: its size and Ac.

@@ -1,15 +1,13 @@
 // Samples judged on a plan that is handed over: 16-bit little-endian items of lent bytes.
 ghost use mathlib.Core.Path.{_≡_};
 ghost use Prim.Native.Nat.{_+_, _-_, _*_, _≤_, _<_};
-ghost use mathlib.Core.Bool.{cond};
 ghost use mathlib.Core.List.{[], _∷_};
-ghost use lib.Dec.{eqb, ltb};
 ghost use lib.ListN.{length, drop};
 ghost use Rattle.rules.specs.Numbers.{numbersOf};
 ghost use Rattle.rules.specs.Codes.{illegal};
 ghost use Rattle.rules.specs.Staged.{takeItems, stageAt, stageDecides, judgeStages};
 ghost use Rattle.rules.specs.Sequential.{onAcceptLine, onRejectLine, itemDecides, judgeSequence};
-ghost use Rattle.rules.specs.Book.{within, _to_, acKeeps, reKeeps, couldHold, reducedSingles, staged, sequential};
+ghost use Rattle.rules.specs.Book.{within, _to_, couldHold, reducedSingles, staged, sequential};
 ghost use Rattle.rules.specs.Entries.{stagedEntry, sequentialEntry, singleSample, stagedSample, sequentialSample};
 ghost use Rattle.samples.specs.Paper.{decisionPaper, endedAfter, sequentialPaper, paperOf};
 ghost use Rattle.samples.specs.Paper.{takenPaper, takenTotal, stagedPaper, stageKeeps};
@@ -248,33 +246,6 @@ pub struct StagedPlan {
     pub res: [u16; 7],
 }
 
-// An Ac that is a number does not fall; a mark stands only before numbers, and not at the last stage.
-fn ac_keeps(first: bool, last: bool, before: u16, ac: u16) -> bool
-    ensures { λ r. ⌜ r ≡ acKeeps first last before ac ⌝ }
-{
-    if ac == 65535 {
-        return !last & (first | (before == 65535));
-    }
-    first | ((before == 65535) | (before <= ac))
-}
-
-// Re is over Ac, at the last stage by one.
-fn is_over(last: bool, ac: u16, re: u16) -> bool
-    ensures { λ r. ⌜ r ≡ cond last (eqb re (ac + 1)) (ltb ac re) ⌝ }
-{
-    if last {
-        return re as u64 == ac as u64 + 1;
-    }
-    ac < re
-}
-
-// Re does not fall, and is over an Ac that is a number.
-fn re_keeps(first: bool, last: bool, before: u16, ac: u16, re: u16) -> bool
-    ensures { λ r. ⌜ r ≡ reKeeps first last before ac re ⌝ }
-{
-    (re <= 65534) & ((first | (before <= re)) & ((ac == 65535) | is_over(last, ac, re)))
-}
-
 // i - 1, and 0 at 0
 fn one_less(i: usize) -> usize
     ensures { λ r. ⌜ r ≡ i - 1 ⌝ }
@@ -290,9 +261,9 @@ fn stage_keeps(plan: StagedPlan, i: usize) -> bool
     let first = i == 0;
     let last = i + 1 == plan.stages as usize;
     let before = one_less(i);
-    let ac = ac_keeps(first, last, plan.acs[before], plan.acs[i]);
-    let re = re_keeps(first, last, plan.res[before], plan.acs[i], plan.res[i]);
-    in_range(1, 2000, plan.sizes[i]) & ac & re
+    let ac = stages::ac_keeps(first, last, plan.acs[before], plan.acs[i]);
+    let re = stages::re_keeps(first, last, plan.res[before], plan.acs[i], plan.res[i]);
+    stages::size_keeps(plan.sizes[i]) & ac & re
 }
 
 // Could a sound book hold the plan?

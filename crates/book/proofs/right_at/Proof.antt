@@ -11,8 +11,8 @@ use Rattle.rules.proofs.Steps.{right-by, wrong-by}
 use Rattle.book.proofs.right_at.Statement.{statement}
 use Rattle.book.proofs.right_at.Tie as tie
 
-number-requires : tie.Need-number-requires
-number-requires c κs = search needs
+number16-requires : tie.Need-number16-requires
+number16-requires c κs = search needs
 
 in-range-requires : tie.Need-in-range-requires
 in-range-requires c κs = search needs
@@ -26,7 +26,7 @@ returns c =
     let k = kindAt (a .args .kind) in
     let e = numbersOf (now (a .args .e)) in
     let i = a .args .i in
-    let x = c .before .before .before .number .ensures .0 in
+    let x = c .before .before .before .number16 .ensures in
     let w : within (getD (k .ranges) i anything) (getD e i 0) ≡ true =
     ap (within (getD (k .ranges) i anything)) (sym x) ∙ sym (c .before .before .in-range .ensures)
     ∙ c .before .if1 .taken in
@@ -38,11 +38,11 @@ returns-2 c =
     let k = kindAt (a .args .kind) in
     let e = numbersOf (now (a .args .e)) in
     let i = a .args .i in
-    let x = c .before .before .number .ensures .0 in
+    let x = c .before .before .number16 .ensures in
     let w : within (getD (k .ranges) i anything) (getD e i 0) ≡ false =
     ap (within (getD (k .ranges) i anything)) (sym x) ∙ sym (c .before .in-range .ensures) ∙ c .if1 .left in
     sym (wrong-by k e i w)
 
 pub right-at-spec : {M : Type 1} → statement M
 right-at-spec =
-    tie.close (tie.spec number-requires in-range-requires rule-requires returns returns-2)
+    tie.close (tie.spec number16-requires in-range-requires rule-requires returns returns-2)

@@ -14,20 +14,20 @@ returns c =
     let a = c .before .before in
     sym (staged-free (numbersOf (now (a .args .e))) (a .args .i) _ (a .pre) (c .if1 .taken))
 
-number-requires : tie.Need-number-requires
-number-requires c κs = search needs
+number16-requires : tie.Need-number16-requires
+number16-requires c κs = search needs
 
-sub-number : tie.Need-sub-number
-sub-number c = search needs
+sub-number16 : tie.Need-sub-number16
+sub-number16 c = search needs
 
-number-requires-2 : tie.Need-number-requires-2
-number-requires-2 c κs = search needs
+number16-requires-2 : tie.Need-number16-requires-2
+number16-requires-2 c κs = search needs
 
-sub-number-2 : tie.Need-sub-number-2
-sub-number-2 c = search needs
+sub-number16-2 : tie.Need-sub-number16-2
+sub-number16-2 c = search needs
 
-number-requires-3 : tie.Need-number-requires-3
-number-requires-3 c κs = search needs
+number16-requires-3 : tie.Need-number16-requires-3
+number16-requires-3 c κs = search needs
 
 staged-number-requires : tie.Need-staged-number-requires
 staged-number-requires c κs = search needs
@@ -38,9 +38,9 @@ returns-2 c =
     let e = numbersOf (now (a .args .e)) in
     c .staged-number .ensures
     ∙ (rw (
-      c .before .before .before .number .ensures .0,
-      c .before .before .number2 .ensures .0,
-      c .before .number3 .ensures .0,
+      c .before .before .before .number16 .ensures,
+      c .before .before .number162 .ensures,
+      c .before .number163 .ensures,
     ))
     ∙ sym (staged-at e (a .args .i) (a .args .x) (a .pre) (omega arith))
 
@@ -49,10 +49,10 @@ staged-rule-spec =
     tie.close
     (tie.spec
     returns
-    number-requires
-    sub-number
-    number-requires-2
-    sub-number-2
-    number-requires-3
+    number16-requires
+    sub-number16
+    number16-requires-2
+    sub-number16-2
+    number16-requires-3
     staged-number-requires
     returns-2)

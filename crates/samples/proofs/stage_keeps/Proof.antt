@@ -50,14 +50,14 @@ element-copy-out-re-keeps-3 c = search needs
 re-keeps-requires : tie.Need-re-keeps-requires
 re-keeps-requires c κs = search needs
 
-mul-in-range : tie.Need-mul-in-range
-mul-in-range c = search needs
+mul-size-keeps : tie.Need-mul-size-keeps
+mul-size-keeps c = search needs
 
-element-copy-out-in-range : tie.Need-element-copy-out-in-range
-element-copy-out-in-range c = search needs
+element-copy-out-size-keeps : tie.Need-element-copy-out-size-keeps
+element-copy-out-size-keeps c = search needs
 
-in-range-requires : tie.Need-in-range-requires
-in-range-requires c κs = search needs
+size-keeps-requires : tie.Need-size-keeps-requires
+size-keeps-requires c κs = search needs
 
 returns : tie.Need-returns
 unfolding stageKeeps
@@ -65,7 +65,7 @@ returns c =
     let re = c .before .before in
     let ac = re .before .before .before .before in
     let b = ac .before .before .before in
-    rw (← b .one-less .ensures, c .in-range .ensures, ac .ac-keeps .ensures, re .re-keeps .ensures)
+    rw (← b .one-less .ensures, c .size-keeps .ensures, ac .ac-keeps .ensures, re .re-keeps .ensures)
 
 pub stage-keeps-spec : {M : Type 1} → statement M
 stage-keeps-spec =
@@ -86,7 +86,7 @@ stage-keeps-spec =
     mul-re-keeps-3
     element-copy-out-re-keeps-3
     re-keeps-requires
-    mul-in-range
-    element-copy-out-in-range
-    in-range-requires
+    mul-size-keeps
+    element-copy-out-size-keeps
+    size-keeps-requires
     returns)

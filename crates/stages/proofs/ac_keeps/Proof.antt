@@ -1,9 +1,9 @@
--- `samples::ac_keeps` meets its contract.
+-- `stages::ac_keeps` meets its contract.
 -- Assumes nothing.
 use borrow.Author.Tests.{eq-eqb, ne-eqb}
 use Rattle.rules.specs.Book.{acKeeps}
-use Rattle.samples.proofs.ac_keeps.Statement.{statement}
-use Rattle.samples.proofs.ac_keeps.Tie as tie
+use Rattle.stages.proofs.ac_keeps.Statement.{statement}
+use Rattle.stages.proofs.ac_keeps.Tie as tie
 
 returns : tie.Need-returns
 unfolding acKeeps

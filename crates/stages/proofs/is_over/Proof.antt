@@ -1,8 +1,8 @@
--- `samples::is_over` meets its contract.
+-- `stages::is_over` meets its contract.
 -- Assumes nothing.
 use borrow.Author.Needs.{needs}
-use Rattle.samples.proofs.is_over.Statement.{statement}
-use Rattle.samples.proofs.is_over.Tie as tie
+use Rattle.stages.proofs.is_over.Statement.{statement}
+use Rattle.stages.proofs.is_over.Tie as tie
 
 add-result : tie.Need-add-result
 add-result c = search needs

@@ -1,9 +1,9 @@
--- `samples::re_keeps` meets its contract.
+-- `stages::re_keeps` meets its contract.
 -- Assumes nothing.
 use Rattle.rules.specs.Book.{reKeeps}
 use borrow.Author.Needs.{needs}
-use Rattle.samples.proofs.re_keeps.Statement.{statement}
-use Rattle.samples.proofs.re_keeps.Tie as tie
+use Rattle.stages.proofs.re_keeps.Statement.{statement}
+use Rattle.stages.proofs.re_keeps.Tie as tie
 
 is-over-requires : tie.Need-is-over-requires
 is-over-requires c κs = search needs
