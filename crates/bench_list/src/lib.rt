@@ -1,6 +1,4 @@
 // `severity::list_severities` for C, so that benchmarks/ can time it.
-ghost use mathlib.Core.Path.{_≡_};
-ghost use lib.ListN.{length};
 ghost use Rattle.bench_list.specs.Numbered.{ListLeft};
 use severity::Listed;
 

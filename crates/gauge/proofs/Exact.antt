@@ -3,7 +3,7 @@
 use mathlib.Core.Path.{_≡_, refl, _∙_}
 use Prim.Native.Nat.{ℕ, _≤_, _^_}
 use native.Mathlib.Omega.{arith}
-use lib.Dec.{T, leb, ltb, le→leb, lt→ltb}
+use lib.Dec.{T, le→leb, lt→ltb}
 use lib.IntN.{ℤ, pos, negsuc, _-ℤ_}
 use lib.Signed.{mag}
 use lib.Ieee.{binary64, inFloat}

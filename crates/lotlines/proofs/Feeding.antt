@@ -1,11 +1,10 @@
 -- What feed and finish answer, by the definition of feeding: one law for each way out, and one result.
 -- Assumes nothing.
-use Prim.Native.Nat.{ℕ, suc, _+_, _≤_, _<_}
+use Prim.Native.Nat.{ℕ, _+_, _≤_, _<_}
 use native.Mathlib.Omega.{arith}
 use mathlib.Core.Path.{_≡_, refl, sym, ap, subst, _∙_}
-use mathlib.Core.Bool.{Bool, true, false, cond}
+use mathlib.Core.Bool.{true}
 use mathlib.Core.List.{List, []}
-use lib.Dec.{ltb}
 use lib.ListN.{length}
 use lib.Seq.{length-take-le}
 use borrow.Author.Tests.{lt-ltb, le-ltb, le-leb, lt-leb, ne-eqb}
@@ -19,10 +18,9 @@ use Rattle.severity.specs.declared.Record.{Record}
 use Rattle.severity.specs.Paper.{paperRecord}
 use Rattle.lotlines.specs.declared.Logged.{Logged}
 use Rattle.lotlines.specs.declared.State.{State}
-use Rattle.lotlines.specs.declared.Fed.{Fed}
 use Rattle.lotlines.specs.declared.Gathered.{Gathered}
 use Rattle.lotlines.specs.Printing.{Puts}
-use Rattle.lotlines.specs.Paper.{Logs, begunOf, heldOf, paperHeld, lengthAfter, bytesAfter, Gathers, Feeds}
+use Rattle.lotlines.specs.Paper.{Logs, begunOf, heldOf, paperHeld, lengthAfter, Gathers, Feeds}
 use Rattle.lotlines.proofs.Keeping.{kept-begun}
 
 nothing-put : (out : List ℕ) → Puts 0 [] out out 0

@@ -1,16 +1,16 @@
 -- Which form a line has, by its letter and what follows it: one law for each way out.
 -- Assumes nothing.
-use Prim.Native.Nat.{ℕ, zero, suc, _+_, _≤_, _<_}
+use Prim.Native.Nat.{ℕ, suc}
 use native.Mathlib.Omega.{arith}
-use mathlib.Core.Path.{_≡_, refl, sym, ap, _∙_}
+use mathlib.Core.Path.{_≡_, refl, sym}
 use mathlib.Core.Bool.{Bool, true, false, cond, _&&_}
 use mathlib.Core.List.{List, [], _∷_}
 use lib.Dec.{leb, eqb}
 use lib.ListN.{length, getD}
-use borrow.Author.Tests.{le-leb, eq-eqb, ne-eqb}
+use borrow.Author.Tests.{le-leb, ne-eqb}
 use Rattle.rules.specs.History.{Work, ours}
 use Rattle.rules.specs.Log as log
-use Rattle.rules.specs.Log.{splitAt, joinFirst, space, isNumber, valueOf, fieldAt, opens, numbersAfter, lotIn}
+use Rattle.rules.specs.Log.{splitAt, space, isNumber, valueOf, fieldAt, numbersAfter, lotIn}
 use Rattle.rules.specs.Log.{yesOrNo, orderIn}
 use Rattle.rules.specs.Log.{orderLine, unknownLine, lineOf}
 use Rattle.rules.specs.Feeding.{upTo}

@@ -1,19 +1,19 @@
 -- The unfinished line as it is kept: byte by byte, and what it stands for.
 -- Assumes nothing.
-use Prim.Native.Nat.{ℕ, zero, suc, _+_, _≤_, _<_}
+use Prim.Native.Nat.{ℕ, _+_, _≤_, _<_}
 use native.Mathlib.Omega.{arith}
 use native.Mathlib.Numerals.{add-one}
 use mathlib.Core.Path.{_≡_, refl, sym, ap, _∙_}
 use mathlib.Core.Bool.{Bool, true, false, cond}
-use mathlib.Core.List.{List, [], _∷_, _++_}
-use lib.Dec.{leb, ltb, eqb}
-use lib.ListN.{length, getD, take, drop, set, length-set, drop-of-length-le, replicate}
+use mathlib.Core.List.{List, [], _∷_}
+use lib.Dec.{ltb}
+use lib.ListN.{length, getD, drop, set, length-set, drop-of-length-le, replicate}
 use lib.Seq.{take-suc-set, length-take-le, drop-cons}
-use borrow.Author.Tests.{ltb-true, ltb-false, lt-ltb, le-ltb, le-leb, lt-leb, eq-eqb, ne-eqb}
+use borrow.Author.Tests.{lt-ltb, le-ltb, le-leb, lt-leb, eq-eqb, ne-eqb}
 use Rattle.rules.specs.Severity.{fresh}
 use Rattle.rules.specs.History.{ours}
 use Rattle.rules.specs.Log.{newline}
-use Rattle.rules.specs.Feeding.{upTo, Begun, soFar, tooLong, longestLine, oneMore, isBegun, starting}
+use Rattle.rules.specs.Feeding.{upTo, Begun, longestLine, oneMore, starting}
 use Rattle.rules.proofs.Bounded.{by-le}
 use Rattle.rules.proofs.Feeding.{extended}
 use Rattle.severity.specs.declared.Record.{Record}

@@ -10,7 +10,7 @@ use lib.ListN.{length, take, drop, length-append, length-drop, take-append-drop}
 use borrow.Author.Tests.{ltb-true, ltb-false, leb-false, le-leb, lt-leb, ne-eqb}
 use Rattle.rules.specs.Severity.{Record, fresh}
 use Rattle.rules.specs.History.{Work}
-use Rattle.rules.specs.Log.{splitAt, newline, space, droppingEmptyLast, lineOf, Logged, loggedAs, loggedLine}
+use Rattle.rules.specs.Log.{splitAt, newline, space, droppingEmptyLast, lineOf, Logged, loggedLine}
 use Rattle.rules.specs.Log.{lineAfter, logFrom, header, log}
 use Rattle.rules.specs.Feeding.{upTo, Begun, soFar, tooLong, longestLine, oneMore, lineBegun, Held}
 use Rattle.rules.specs.Feeding.{holding, starting, ended, afterLine, Fed, oneTaken, fed, finished, tookIn}

@@ -1,18 +1,18 @@
 -- A line read byte by byte: its fields one after another, its numbers, and that a line over 45 bytes has no known form.
 -- Assumes nothing.
-use Prim.Native.Nat.{ℕ, zero, suc, _+_, _*_, _-_, _^_, _≤_, _<_}
+use Prim.Native.Nat.{ℕ, suc, _+_, _*_, _-_, _^_, _≤_, _<_}
 use native.Mathlib.Omega.{arith}
 use native.Mathlib.Nat.{pow-succ', pow-le-pow-right, mul-assoc, mul-le-mul, mul-le-mul-right, le-trans}
-use mathlib.Core.Path.{_≡_, refl, sym, ap, _∙_}
-use mathlib.Core.Bool.{Bool, true, false, cond, _&&_, _||_, not, true≢false}
-use mathlib.Core.List.{List, [], _∷_, _++_}
-use lib.Dec.{leb, ltb, eqb}
-use lib.ListN.{length, getD, drop}
-use borrow.Author.Tests.{ltb-true, leb-true, eqb-true, eqb-false, lt-ltb, le-ltb, lt-leb, le-leb, eq-eqb, ne-eqb}
+use mathlib.Core.Path.{_≡_, refl, _∙_}
+use mathlib.Core.Bool.{Bool, true, false, cond, _&&_, _||_, not}
+use mathlib.Core.List.{List, [], _∷_}
+use lib.Dec.{leb, eqb}
+use lib.ListN.{length, getD}
+use borrow.Author.Tests.{leb-true, eqb-true, eqb-false, ne-eqb}
 use borrow.Author.Tests.{not-true}
 use Rattle.rules.specs.History.{Work}
 use Rattle.rules.specs.Log.{splitAt, joinFirst, space, isDigit, allDigits, valueFrom, valueOf, largestNumber}
-use Rattle.rules.specs.Log.{isNumber, Line, unknownLine, fieldAt, opens, numbersAfter, yesOrNo, lineOf}
+use Rattle.rules.specs.Log.{isNumber, unknownLine, fieldAt, opens, numbersAfter, yesOrNo, lineOf}
 use Rattle.rules.specs.Feeding.{upTo, longestLine}
 use Rattle.rules.proofs.Bools.{and-left, and-right, or-unless}
 use Rattle.rules.proofs.Bounded.{by-le}

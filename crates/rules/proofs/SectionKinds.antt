@@ -2,9 +2,9 @@
 -- Assumes nothing.
 use Prim.Native.Nat.{ℕ, zero, suc, _<_, _≤_}
 use mathlib.Core.Path.{_≡_, refl}
-use lib.ListN.{getD, List·getD-eq-default}
+use lib.ListN.{getD}
 use native.Mathlib.Omega.{arith}
-use Rattle.rules.specs.Book.{kindAt, anything, itemColumn, reducedSingles, staged, sequential, variables}
+use Rattle.rules.specs.Book.{kindAt, anything, itemColumn}
 
 pub each-kind : (P : ℕ → Type 0) → P 0 → P 1 → P 2 → P 3 → (n : ℕ) → n < 4 → P n
 each-kind P a b c d zero h = a
@@ -15,15 +15,6 @@ each-kind P a b c d (suc (suc (suc (suc n)))) h = let z : ⊥ = omega arith in a
 
 pub key-there : (n : ℕ) → n < 4 → 0 < kindAt n .key
 key-there = each-kind (λ n. 0 < kindAt n .key) (omega arith) (omega arith) (omega arith) (omega arith)
-
--- past its list of ranges, at eight numbers or more, every number fits
-pub range-past : (i : ℕ) → 8 ≤ i → (n : ℕ) → n < 4 → getD (kindAt n .ranges) i anything ≡ anything
-range-past i h =
-    each-kind (λ n. getD (kindAt n .ranges) i anything ≡ anything)
-    (List·getD-eq-default (reducedSingles .ranges) anything {n = i} (omega arith))
-    (List·getD-eq-default (staged .ranges) anything {n = i} (omega arith))
-    (List·getD-eq-default (sequential .ranges) anything {n = i} (omega arith))
-    (List·getD-eq-default (variables .ranges) anything {n = i} (omega arith))
 
 pub key-three : (n : ℕ) → n < 4 → (kindAt n .key ≡ 2 → ⊥) → kindAt n .key ≡ 3
 key-three =

@@ -307,14 +307,6 @@ module _ (j severity letter column : ℕ) (ws : List ℕ) where
   unfolding lookUp
   look-up-at p q = rw (← q)
 
-  pub look-up-broken : (p : ℕ) → broken p ≡ sections (take j kinds) ws → lookUp j severity letter column ws ≡ nothing
-  unfolding lookUp
-  look-up-broken p q = rw (← q)
-
-  pub look-up-short : short ≡ sections (take j kinds) ws → lookUp j severity letter column ws ≡ nothing
-  unfolding lookUp
-  look-up-short q = rw (← q)
-
 -- a list that is filled from the front with every s-th number
 module _ (p s n i : ℕ) (ws l : List ℕ) where
   pub fill-next : i < n → i < length l

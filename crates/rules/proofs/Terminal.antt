@@ -1,19 +1,19 @@
 -- The C terminal's forms lose nothing: a record and its bytes, a refusal and its status.
 -- Assumes nothing.
-use Prim.Native.Nat.{ℕ, zero, suc, _+_, _*_, _/_, _%_, _≤_, _<_}
+use Prim.Native.Nat.{ℕ, zero, suc, _/_, _%_, _<_}
 use mathlib.Core.Path.{_≡_, refl, ap, sym, _∙_}
 use mathlib.Core.Logic.{_↔_}
-use mathlib.Core.Bool.{Bool, true, false, cond, _&&_, true≢false}
-use mathlib.Core.List.{List, [], _∷_}
+use mathlib.Core.Bool.{Bool, true, false}
+use mathlib.Core.List.{List}
 use native.Mathlib.Omega.{arith}
-use borrow.Author.Tests.{leb-true, eqb-true, le-leb}
+use borrow.Author.Tests.{leb-true, eqb-true}
 use lib.Dec.{leb, eqb}
 use lib.ListN.{length, getD}
 use lib.Seq.{ext-getD}
 use Rattle.rules.specs.Refusals.{Answer, refused, given}
 use Rattle.rules.specs.Severity.{Record, inRange, figuresInRange}
 use Rattle.rules.specs.Book.{every}
-use Rattle.rules.specs.Terminal.{statusOf, flag, bytesOf, hasForm, outOfForm, recordIn}
+use Rattle.rules.specs.Terminal.{statusOf, flag, bytesOf, hasForm, recordIn}
 use Rattle.rules.proofs.Answers.{refused-given}
 use Rattle.rules.proofs.Bools.{and-left, and-right}
 use Rattle.rules.proofs.HeldStaged.{every-length, every-at}

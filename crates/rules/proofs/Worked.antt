@@ -2,10 +2,10 @@
 -- other cases, and edges beside them, as a second list; what the screen shows; then lotlog's whole listing, and two of
 -- its edges.
 -- Assumes nothing.
-use Prim.Native.Nat.{ℕ, zero, suc}
+use Prim.Native.Nat.{ℕ}
 use mathlib.Core.Path.{_≡_, refl}
 use mathlib.Core.Bool.{Bool, true, false}
-use mathlib.Core.List.{List, [], _∷_, _++_, map}
+use mathlib.Core.List.{List, [], _∷_, _++_}
 use lib.IntN.{ℤ, pos, negsuc}
 use lib.Ieee.{binary64, fin, ofBits}
 use lib.ListN.{length, getD, replicate}

@@ -6,7 +6,7 @@ use mathlib.Core.Bool.{Bool, true, false, cond, _&&_, _||_, not}
 use mathlib.Core.List.{List, [], _∷_, _++_}
 use lib.Dec.{leb, ltb, eqb}
 use lib.ListN.{length, getD, take, drop, replicate}
-use Rattle.rules.specs.Refusals.{Answer, refused, given, brokenBook}
+use Rattle.rules.specs.Refusals.{Answer, refused, brokenBook}
 use Rattle.rules.specs.Numbers.{numbersOf}
 use Rattle.rules.specs.Staged.{StagedPlan, mark}
 use Rattle.rules.specs.Sequential.{SequentialPlan}

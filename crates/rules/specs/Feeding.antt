@@ -1,13 +1,12 @@
 -- lotlog fed piece by piece, in constant memory: what is held between pieces, what each piece prints. Definitions only.
 use Prim.Native.Nat.{ℕ, zero, suc}
-use mathlib.Core.Bool.{Bool, true, false, cond, not}
+use mathlib.Core.Bool.{Bool, true, cond, not}
 use mathlib.Core.List.{List, [], _∷_, _++_}
 use lib.Dec.{ltb, eqb}
 use lib.ListN.{length, take, drop}
 use Rattle.rules.specs.Severity.{Record, fresh}
 use Rattle.rules.specs.History.{Work}
 use Rattle.rules.specs.Log.{splitAt, newline, space, Line, unknownLine, lineOf, Logged, loggedAs, lineAfter}
-use Rattle.rules.specs.Log.{header}
 
 -- the bytes before the first separator
 unfoldable pub upTo : ℕ → List ℕ → List ℕ

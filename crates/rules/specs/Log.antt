@@ -7,7 +7,7 @@ use lib.ListN.{length, getD}
 use Rattle.rules.specs.Refusals.{Answer, refused, given, unknownForm}
 use Rattle.rules.specs.Ascii.{ascii}
 use Rattle.rules.specs.Single.{Plan}
-use Rattle.rules.specs.Severity.{Record, fresh, step}
+use Rattle.rules.specs.Severity.{Record, fresh}
 use Rattle.rules.specs.History.{Work}
 use Rattle.rules.specs.Entries.{Offered, Closed, closeTotal, next}
 

@@ -1,6 +1,6 @@
 -- Document 01, 'Numbers the bench sees': what an entry answers, the twelve refusals, and their order. Definitions only.
 use Prim.Native.Nat.{ℕ}
-use mathlib.Core.Bool.{Bool, true, false, cond}
+use mathlib.Core.Bool.{Bool, cond}
 use mathlib.Core.List.{List, [], _∷_}
 
 -- "A refusal carries its number (and place) and writes nothing": the place is 0 where document 01 gives none.

@@ -1,6 +1,6 @@
 -- Document 01, 'Variables, s method', the screen: mean and variance in f64. Definitions only.
 use Prim.Native.Nat.{ℕ, _*_, _-_, _/_}
-use mathlib.Core.Bool.{Bool, true, false, cond, _&&_, _||_, not}
+use mathlib.Core.Bool.{cond, _||_, not}
 use mathlib.Core.List.{List, [], _∷_}
 use lib.Dec.{eqb, ltb}
 use lib.IntN.{ℤ, pos}

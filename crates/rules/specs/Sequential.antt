@@ -1,6 +1,6 @@
 -- Document 01, 'Staged and sequential samples', the sequential ones. Definitions only.
-use Prim.Native.Nat.{ℕ, zero, suc, _+_, _*_}
-use mathlib.Core.Bool.{Bool, true, false, cond}
+use Prim.Native.Nat.{ℕ, suc, _+_, _*_}
+use mathlib.Core.Bool.{Bool, cond}
 use mathlib.Core.List.{List, [], _∷_}
 use lib.Dec.{leb, ltb}
 use Rattle.rules.specs.Refusals.{Answer, refused, wrongLength, illegalItem}

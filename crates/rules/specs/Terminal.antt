@@ -1,7 +1,7 @@
 -- Document 01, "The C terminal calls the plan, the verdict and the next severity with numbers and byte slices": the
 -- status that a call returns, a lent record's bytes, and what lent memory then holds. Definitions only.
 use Prim.Native.Nat.{ℕ, _+_, _*_}
-use mathlib.Core.Bool.{Bool, true, false, cond, _&&_}
+use mathlib.Core.Bool.{Bool, false, cond, _&&_}
 use mathlib.Core.List.{List, [], _∷_}
 use lib.Dec.{leb, eqb}
 use lib.ListN.{length, getD}

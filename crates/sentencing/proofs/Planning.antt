@@ -8,7 +8,6 @@ use borrow.Author.Tests.{ne-eqb}
 use Rattle.rules.specs.Refusals.{Answer, refused, given, firstOf, andThen}
 use Rattle.rules.specs.Codes.{letterOf}
 use Rattle.rules.specs.Book.{Checked, sound, brokenAt, checkBook, onSound, Found, found, nothing}
-use Rattle.rules.specs.Single.{tablePlan}
 use Rattle.rules.specs.Entries.{Asked, askedChecks, askedLetter, lookedUp, fromEntry, singlePlan, plainPlan}
 use Rattle.rules.proofs.Answers.{refused-given}
 use Rattle.rules.proofs.Checks.{asked-kept, asked-passed, asked-letter}

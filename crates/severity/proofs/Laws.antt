@@ -2,7 +2,7 @@
 -- Assumes nothing.
 use Prim.Native.Nat.{ℕ, zero, suc, _+_, _*_, _%_, _≤_, _<_, min}
 use mathlib.Core.Path.{_≡_, refl, sym, ap, _∙_}
-use mathlib.Core.Bool.{Bool, true, false, cond, _&&_, not}
+use mathlib.Core.Bool.{Bool, true, false, _&&_}
 use native.Mathlib.Omega.{arith}
 use native.Mathlib.Numerals.{add-one}
 use lib.Dec.{leb, ltb, eqb}
@@ -15,7 +15,7 @@ use Rattle.rules.specs.Severity.{onNormal, onTightened, due, settled, scoreAfte
 use Rattle.rules.specs.Severity.{onLot, onResubmitted, onOrder, onCorrective, step, figuresInRange, scoreAndWindow}
 use Rattle.rules.specs.Severity.{noScoreOrWindow, runAndCount, noRunOrCount, inRange, counted, singlePoints}
 use Rattle.rules.specs.Severity.{stagedPoints}
-use Rattle.rules.specs.History.{ours, eventIn, eventOf}
+use Rattle.rules.specs.History.{ours, eventIn}
 use Rattle.rules.specs.Entries.{onRecord}
 use Rattle.severity.specs.declared.Lot as declared
 use Rattle.severity.specs.declared.Lot.the-variants as lots

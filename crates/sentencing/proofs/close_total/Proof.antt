@@ -1,7 +1,6 @@
 -- `sentencing::close_total` meets its contract.
 -- Assumes nothing.
-use mathlib.Core.Path.{sym, ap, _∙_}
-use mathlib.Core.Bool.{not}
+use mathlib.Core.Path.{sym, _∙_}
 use Rattle.rules.specs.Entries.{closeTotal}
 use borrow.Author.Needs.{needs}
 use Rattle.sentencing.proofs.close_total.Statement.{statement}

@@ -1,6 +1,6 @@
 -- `sentencing::first_refusal` meets its contract.
 -- Assumes nothing.
-use mathlib.Core.Path.{_≡_, sym, ap, _∙_}
+use mathlib.Core.Path.{sym, ap, _∙_}
 use denote.Ref.{now}
 use Rattle.rules.specs.Book.{checkBook}
 use Rattle.book.specs.Paper.{bookPaper}

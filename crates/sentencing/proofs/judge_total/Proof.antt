@@ -1,6 +1,6 @@
 -- `sentencing::judge_total` meets its contract.
 -- Assumes nothing.
-use mathlib.Core.Path.{_≡_, sym, ap, _∙_}
+use mathlib.Core.Path.{sym, ap, _∙_}
 use Rattle.rules.specs.Entries.{judgeTotal}
 use Rattle.plans.specs.Paper.{paperOf}
 use borrow.Author.Needs.{needs}

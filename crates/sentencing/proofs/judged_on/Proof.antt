@@ -1,6 +1,6 @@
 -- `sentencing::judged_on` meets its contract.
 -- Assumes nothing.
-use mathlib.Core.Path.{_≡_, sym, ap, _∙_}
+use mathlib.Core.Path.{sym, ap, _∙_}
 use Rattle.samples.specs.declared.SampleAnswer.{SampleAnswer}
 use Rattle.samples.specs.Paper.{stagedPaper, paperOf}
 use Rattle.sentencing.specs.Paper.{beside, judgedPlan, verdictOn}

@@ -1,6 +1,6 @@
 -- `sentencing::staged_plan` meets its contract.
 -- Assumes nothing.
-use mathlib.Core.Path.{_≡_, sym, ap, _∙_}
+use mathlib.Core.Path.{sym, ap, _∙_}
 use denote.Ref.{now}
 use Rattle.rules.specs.Book.{stagedOf}
 use Rattle.rules.specs.Entries.{stagedSection, stagedPlan}

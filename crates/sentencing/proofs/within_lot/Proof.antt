@@ -1,7 +1,7 @@
 -- `sentencing::within_lot` meets its contract.
 -- Assumes nothing.
 use Prim.Native.Nat.{_≤_}
-use mathlib.Core.Path.{_≡_, sym, ap, _∙_}
+use mathlib.Core.Path.{sym, ap, _∙_}
 use native.Mathlib.Omega.{arith}
 use Rattle.rules.specs.Refusals.{andThen}
 use Rattle.book.specs.declared.StagedAnswer.{StagedAnswer}

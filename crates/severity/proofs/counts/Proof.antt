@@ -1,4 +1,3 @@
-use borrow.Author.Needs.{needs}
 use Rattle.severity.proofs.Laws.{counts-points, counts-zero, counts-bad}
 use Rattle.severity.proofs.counts.Statement.{statement}
 use Rattle.severity.proofs.counts.Tie as tie
