@@ -6,7 +6,6 @@ use mathlib.Core.Bool.{Bool}
 use mathlib.Core.List.{List}
 use lib.ListN.{take}
 use borrow.Author.Tests.{le-leb, lt-leb}
-use Rattle.rules.specs.Severity as paper
 use Rattle.rules.specs.History.{ours}
 use Rattle.rules.specs.Entries.{closeTotal, next}
 use Rattle.rules.specs.Log.{refusedLine, unknownLine, lineOf, splitAt, space, loggedLot, loggedOrder, loggedAs}

@@ -1,3 +1,4 @@
+-- `lotlines::digits` meets its contract. Assumes nothing.
 use native.Mathlib.Nat.{le-trans}
 use Prim.Native.Nat.{_+_, _≤_}
 use mathlib.Core.Path.{_≡_}
@@ -9,8 +10,6 @@ use Rattle.rules.proofs.Decimals.{decimal-within}
 use Rattle.lotlines.proofs.Printing.{digits-fewer, digit-one}
 use Rattle.lotlines.proofs.digits.Statement.{statement}
 use Rattle.lotlines.proofs.digits.Tie as tie
-use Rattle.lotlines.proofs.digits.Reads as reads
-use Rattle.lotlines.proofs.digits.Lts as lts
 
 abbrev Inv-loop : tie.InvT-loop
 Inv-loop n count₀ left₀ count left = (count + length (decimal left) ≡ length (decimal n) + 1) × (left ≤ n)
@@ -18,19 +17,15 @@ Inv-loop n count₀ left₀ count left = (count + length (decimal left) ≡ leng
 abbrev μ-loop : tie.MeasureT-loop
 μ-loop n count₀ left₀ count left = left
 
--- src/lib.rt:148:5
 loop-holds : tie.Need-loop-holds Inv-loop μ-loop
 loop-holds c = omega arith
 
--- src/lib.rt:150:9
 add-count : tie.Need-add-count Inv-loop μ-loop
 add-count c = omega (arith, decimal-within 19 (c .before .before .args .n) (omega arith))
 
--- src/lib.rt:148:5
 loop-less : tie.Need-loop-less Inv-loop μ-loop
 loop-less c = div-lt-self (omega arith) (omega arith)
 
--- src/lib.rt:148:5
 loop-again : tie.Need-loop-again Inv-loop μ-loop
 loop-again c = (
   omega (arith, digits-fewer (c .before .loop .left) (omega arith) (omega arith)),
@@ -38,7 +33,6 @@ loop-again c = (
       .before .loop .inv .1),
 )
 
--- src/lib.rt:143:1
 returns : tie.Need-returns Inv-loop μ-loop
 returns c = omega (arith, digit-one _ (c .loop-test .left))
 

@@ -1,3 +1,4 @@
+-- `lotlines::feed` meets its contract. Assumes nothing.
 use mathlib.Core.Path.{_≡_, sym, ap, _∙_}
 use Rattle.rules.specs.Feeding.{longestLine}
 use lib.ListN.{length}
@@ -24,29 +25,23 @@ whole : (c : lts.After-gather (
     → length (c .before .before .before .before .before .args .state .bytes) ≡ longestLine
 whole c = search needs
 
--- src/lib.rt:458:9
 gather-requires : tie.Need-gather-requires
 gather-requires c κs = search needs
 
--- src/lib.rt:461:45
 slice-aggregate-end-line : tie.Need-slice-aggregate-end-line
 slice-aggregate-end-line c = sym (ap length (c .before .before .gather .ensures .kept) ∙ length-after _ _ _ ∙ search
     needs)
 
--- src/lib.rt:461:13
 end-line-requires : tie.Need-end-line-requires
 end-line-requires c κs = ap length (c .before .before .before .gather .ensures .kept) ∙ length-after _ _ _ ∙ search
     needs
 
--- src/lib.rt:465:19
 line-after-requires : tie.Need-line-after-requires
 line-after-requires c κs = search needs
 
--- src/lib.rt:471:20
 add-t21 : tie.Need-add-t21
 add-t21 c = search needs
 
--- src/lib.rt:469:9
 returns : tie.Need-returns
 returns c =
     let args = c .before .before .before .before .before .before .before .before .before .before .before .args in
@@ -55,7 +50,6 @@ returns c =
     let third = c .before .before .before .before .before .if1 .taken in
     feed-ends (args .state) (whole first) second third (c .before .before .end-line .ensures) (c .line-after .ensures)
 
--- src/lib.rt:452:1
 returns-2 : tie.Need-returns-2
 returns-2 c =
     let args = c .before .before .before .before .before .before .args in

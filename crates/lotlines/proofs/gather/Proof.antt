@@ -1,12 +1,10 @@
+-- `lotlines::gather` meets its contract. Assumes nothing.
 use Prim.Native.Nat.{_-_}
 use lib.ListN.{length}
 use borrow.Author.Needs.{needs}
 use Rattle.lotlines.proofs.Keeping.{Gathering, gathers-first, gathers-newline, gathers-more, gathers-end}
 use Rattle.lotlines.proofs.gather.Statement.{statement}
 use Rattle.lotlines.proofs.gather.Tie as tie
-use Rattle.lotlines.proofs.gather.Reads as reads
-use Rattle.lotlines.proofs.gather.Lts as lts
-use Rattle.lotlines.proofs.keep.Reads as keep-reads
 
 abbrev Inv-loop : tie.InvT-loop
 Inv-loop bytes₀ long piece n₀ i₀ bytes n i = Gathering n₀ bytes₀ piece n bytes i
@@ -14,38 +12,30 @@ Inv-loop bytes₀ long piece n₀ i₀ bytes n i = Gathering n₀ bytes₀ piece
 abbrev μ-loop : tie.MeasureT-loop
 μ-loop bytes₀ long piece n₀ i₀ bytes n i = length piece - i
 
--- src/lib.rt:429:5
 loop-holds : tie.Need-loop-holds Inv-loop μ-loop
 loop-holds c = gathers-first _ _ _
 
--- src/lib.rt:430:17
 shared-slice-read-b : tie.Need-shared-slice-read-b Inv-loop μ-loop
 shared-slice-read-b c = search needs
 
--- src/lib.rt:432:13
 returns : tie.Need-returns Inv-loop μ-loop
 returns c = gathers-newline (c .before .before .before .loop .inv) (c .before .before .loop-test .taken) (c .if1 .taken)
 
--- src/lib.rt:434:9
 keep-requires : tie.Need-keep-requires Inv-loop μ-loop
 keep-requires c κs = search needs
 
--- src/lib.rt:435:9
 add-i : tie.Need-add-i Inv-loop μ-loop
 add-i c = search needs
 
--- src/lib.rt:429:5
 loop-less : tie.Need-loop-less Inv-loop μ-loop
 loop-less c = search needs
 
--- src/lib.rt:429:5
 loop-again : tie.Need-loop-again Inv-loop μ-loop
 loop-again c =
     let first = c .before .before .before .before .before .loop .inv in
     let second = c .before .before .before .before .loop-test .taken in
     gathers-more first second (c .before .before .if1 .left) (c .keep .ensures .0) (c .keep .ensures .1)
 
--- src/lib.rt:424:1
 returns-2 : tie.Need-returns-2 Inv-loop μ-loop
 returns-2 c = gathers-end (c .before .loop .inv) (c .loop-test .left)
 

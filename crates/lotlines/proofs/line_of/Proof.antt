@@ -1,71 +1,53 @@
+-- `lotlines::line_of` meets its contract. Assumes nothing.
 use mathlib.Core.Path.{_∙_}
 use Rattle.lotlines.proofs.Forms.{blank, corrective, alone, unspaced, known-lot, known-again, known-steady}
 use Rattle.lotlines.proofs.Forms.{known-permission, unlettered}
 use borrow.Author.Needs.{needs}
 use Rattle.lotlines.proofs.line_of.Statement.{statement}
 use Rattle.lotlines.proofs.line_of.Tie as tie
-use Rattle.lotlines.proofs.line_of.Reads as reads
-use Rattle.lotlines.proofs.line_of.Lts as lts
-use Rattle.lotlines.proofs.lot_line.Reads as lot-line-reads
-use Rattle.lotlines.proofs.order_line.Reads as order-line-reads
 
--- src/lib.rt:113:9
 returns : tie.Need-returns
 returns c = search (needs, blank)
 
--- src/lib.rt:115:18
 shared-slice-read-letter : tie.Need-shared-slice-read-letter
 shared-slice-read-letter c = search needs
 
--- src/lib.rt:118:13
 returns-2 : tie.Need-returns-2
 returns-2 c = search (needs, corrective)
 
--- src/lib.rt:120:9
 returns-3 : tie.Need-returns-3
 returns-3 c = search (needs, alone)
 
--- src/lib.rt:122:8
 shared-slice-read-if4 : tie.Need-shared-slice-read-if4
 shared-slice-read-if4 c = search needs
 
--- src/lib.rt:123:9
 returns-4 : tie.Need-returns-4
 returns-4 c = search (needs, unspaced)
 
--- src/lib.rt:126:9
 lot-line-requires : tie.Need-lot-line-requires
 lot-line-requires c κs = search needs
 
--- src/lib.rt:126:9
 returns-5 : tie.Need-returns-5
 returns-5 c = c .lot-line .ensures ∙ search (needs, known-lot)
 
--- src/lib.rt:129:9
 lot-line-requires-2 : tie.Need-lot-line-requires-2
 lot-line-requires-2 c κs = search needs
 
--- src/lib.rt:129:9
 returns-6 : tie.Need-returns-6
 returns-6 c = c .lot-line2 .ensures ∙ search (needs, known-again)
 
--- src/lib.rt:132:9
 order-line-requires : tie.Need-order-line-requires
 order-line-requires c κs = search needs
 
--- src/lib.rt:132:9
 returns-7 : tie.Need-returns-7
 returns-7 c = c .order-line .ensures ∙ search (needs, known-steady)
 
--- src/lib.rt:135:9
 order-line-requires-2 : tie.Need-order-line-requires-2
 order-line-requires-2 c κs = search needs
 
--- src/lib.rt:135:9
 returns-8 : tie.Need-returns-8
 returns-8 c = c .order-line2 .ensures ∙ search (needs, known-permission)
 
--- src/lib.rt:109:1
 returns-9 : tie.Need-returns-9
 returns-9 c = search (needs, unlettered)
 

@@ -1,36 +1,27 @@
+-- `lotlines::log_lot` meets its contract. Assumes nothing.
 use Rattle.lotlines.proofs.Logging.{lot-refused, lot-given}
 use borrow.Author.Needs.{needs}
 use Rattle.lotlines.proofs.log_lot.Statement.{statement}
 use Rattle.lotlines.proofs.log_lot.Tie as tie
-use Rattle.lotlines.proofs.log_lot.Reads as reads
-use Rattle.lotlines.proofs.log_lot.Lts as lts
-use Rattle.lotlines.proofs.put_lot.Reads as put-lot-reads
-use Rattle.lotlines.proofs.put_refused.Reads as put-refused-reads
 
--- src/lib.rt:315:32
 enum-known-answer : tie.Need-enum-known-answer
 enum-known-answer c = search needs
 
--- src/lib.rt:316:17
 put-refused-requires : tie.Need-put-refused-requires
 put-refused-requires c κs = search needs
 
--- src/lib.rt:319:30
 enum-known-answer-2 : tie.Need-enum-known-answer-2
 enum-known-answer-2 c = search needs
 
--- src/lib.rt:321:17
 put-lot-requires : tie.Need-put-lot-requires
 put-lot-requires c κs = search needs
 
--- src/lib.rt:311:1
 returns : tie.Need-returns
 returns c =
     let args = c .before .before .before .before .before .args in
     let first = c .before .before .before .answer .given .1 in
     lot-refused (args .supply) (args .line) first (c .put-refused .ensures)
 
--- src/lib.rt:311:1
 returns-2 : tie.Need-returns-2
 returns-2 c =
     let args = c .before .before .before .before .before .before .args in

@@ -1,36 +1,27 @@
+-- `lotlines::log_order` meets its contract. Assumes nothing.
 use Rattle.lotlines.proofs.Logging.{order-refused, order-given}
 use borrow.Author.Needs.{needs}
 use Rattle.lotlines.proofs.log_order.Statement.{statement}
 use Rattle.lotlines.proofs.log_order.Tie as tie
-use Rattle.lotlines.proofs.log_order.Reads as reads
-use Rattle.lotlines.proofs.log_order.Lts as lts
-use Rattle.lotlines.proofs.put_order.Reads as put-order-reads
-use Rattle.lotlines.proofs.put_refused.Reads as put-refused-reads
 
--- src/lib.rt:334:26
 enum-known-answer : tie.Need-enum-known-answer
 enum-known-answer c = search needs
 
--- src/lib.rt:335:17
 put-refused-requires : tie.Need-put-refused-requires
 put-refused-requires c κs = search needs
 
--- src/lib.rt:338:24
 enum-known-answer-2 : tie.Need-enum-known-answer-2
 enum-known-answer-2 c = search needs
 
--- src/lib.rt:339:17
 put-order-requires : tie.Need-put-order-requires
 put-order-requires c κs = search needs
 
--- src/lib.rt:330:1
 returns : tie.Need-returns
 returns c =
     let args = c .before .before .before .before .before .args in
     let first = c .before .before .before .answer .given .1 in
     order-refused (args .supply) (args .line) first (c .put-refused .ensures)
 
--- src/lib.rt:330:1
 returns-2 : tie.Need-returns-2
 returns-2 c =
     let args = c .before .before .before .before .before .args in

@@ -1,59 +1,45 @@
+-- `lotlines::lot_line` meets its contract. Assumes nothing.
 use Rattle.lotlines.proofs.Reading.{first-other, then-known, too-many, as-many}
 use borrow.Author.Needs.{needs}
 use Rattle.lotlines.proofs.lot_line.Statement.{statement}
 use Rattle.lotlines.proofs.lot_line.Tie as tie
-use Rattle.lotlines.proofs.lot_line.Reads as reads
-use Rattle.lotlines.proofs.lot_line.Lts as lts
-use Rattle.lotlines.proofs.number.Reads as number-reads
 
--- src/lib.rt:71:39
 number-requires : tie.Need-number-requires
 number-requires c κs = search needs
 
--- src/lib.rt:71:23
 enum-known-size : tie.Need-enum-known-size
 enum-known-size c = search needs
 
--- src/lib.rt:72:9
 enum-told : tie.Need-enum-told
 enum-told c = search needs
 
--- src/lib.rt:72:9
 returns : tie.Need-returns
 returns c = first-other _ 2 3 _ (c .before .before .number .ensures) (c .enum-told .given .1)
 
--- src/lib.rt:74:39
 number-requires-2 : tie.Need-number-requires-2
 number-requires-2 c κs = search needs
 
--- src/lib.rt:74:23
 enum-known-level : tie.Need-enum-known-level
 enum-known-level c = search needs
 
--- src/lib.rt:75:9
 enum-told-2 : tie.Need-enum-told-2
 enum-told-2 c = search needs
 
--- src/lib.rt:75:9
 returns-2 : tie.Need-returns-2
 returns-2 c =
     let at₁ = c .before .before .before in
     then-known _ 2 3 _ (at₁ .before .before .before .number .ensures) (at₁ .before .size .given .1)
     (first-other _ _ 2 _ (c .before .before .number2 .ensures) (c .enum-told2 .given .1))
 
--- src/lib.rt:77:41
 number-requires-3 : tie.Need-number-requires-3
 number-requires-3 c κs = search needs
 
--- src/lib.rt:77:23
 enum-known-column : tie.Need-enum-known-column
 enum-known-column c = search needs
 
--- src/lib.rt:78:9
 enum-told-3 : tie.Need-enum-told-3
 enum-told-3 c = search needs
 
--- src/lib.rt:78:9
 returns-3 : tie.Need-returns-3
 returns-3 c =
     let at₂ = c .before .before .before in
@@ -62,19 +48,15 @@ returns-3 c =
     (then-known _ _ 2 _ (at₂ .before .before .before .number2 .ensures) (at₂ .before .level .given .1)
     (first-other _ _ 1 _ (c .before .before .number3 .ensures) (c .enum-told3 .given .1)))
 
--- src/lib.rt:80:37
 number-requires-4 : tie.Need-number-requires-4
 number-requires-4 c κs = search needs
 
--- src/lib.rt:80:23
 enum-known-total : tie.Need-enum-known-total
 enum-known-total c = search needs
 
--- src/lib.rt:81:9
 enum-told-4 : tie.Need-enum-told-4
 enum-told-4 c = search needs
 
--- src/lib.rt:81:9
 returns-4 : tie.Need-returns-4
 returns-4 c =
     let at₃ = c .before .before .before in
@@ -85,7 +67,6 @@ returns-4 c =
     (then-known _ _ 1 _ (at₃ .before .before .before .number3 .ensures) (at₃ .before .column .given .1)
     (first-other _ _ 0 _ (c .before .before .number4 .ensures) (c .enum-told4 .given .1))))
 
--- src/lib.rt:84:9
 returns-5 : tie.Need-returns-5
 returns-5 c =
     let at₄ = c .before in
@@ -98,7 +79,6 @@ returns-5 c =
     (then-known _ _ 0 _ (at₄ .before .before .before .number4 .ensures) (at₄ .before .total .given .1)
     (too-many _ _ _ (c .if1 .taken)))))
 
--- src/lib.rt:68:1
 returns-6 : tie.Need-returns-6
 returns-6 c =
     let at₄ = c .before in

@@ -1,49 +1,39 @@
+-- `lotlines::order_line` meets its contract. Assumes nothing.
 use Rattle.lotlines.proofs.Reading.{first-other, then-known, too-many, one-yes, one-no, one-neither}
 use borrow.Author.Needs.{needs}
 use Rattle.lotlines.proofs.order_line.Statement.{statement}
 use Rattle.lotlines.proofs.order_line.Tie as tie
-use Rattle.lotlines.proofs.order_line.Reads as reads
-use Rattle.lotlines.proofs.order_line.Lts as lts
-use Rattle.lotlines.proofs.number.Reads as number-reads
 
--- src/lib.rt:93:37
 number-requires : tie.Need-number-requires
 number-requires c κs = search needs
 
--- src/lib.rt:93:23
 enum-known-value : tie.Need-enum-known-value
 enum-known-value c = search needs
 
--- src/lib.rt:94:9
 enum-told : tie.Need-enum-told
 enum-told c = search needs
 
--- src/lib.rt:94:9
 returns : tie.Need-returns
 returns c = first-other _ 2 0 _ (c .before .before .number .ensures) (c .enum-told .given .1)
 
--- src/lib.rt:97:9
 returns-2 : tie.Need-returns-2
 returns-2 c =
     let at₁ = c .before in
     then-known _ 2 0 _ (at₁ .before .before .before .number .ensures) (at₁ .before .value .given .1)
     (too-many _ _ _ (c .if1 .taken))
 
--- src/lib.rt:100:9
 returns-3 : tie.Need-returns-3
 returns-3 c =
     let at₁ = c .before .before in
     then-known _ 2 0 _ (at₁ .before .before .before .number .ensures) (at₁ .before .value .given .1)
     (one-yes _ _ _ _ _ (c .before .if1 .left) (c .if2 .taken))
 
--- src/lib.rt:103:9
 returns-4 : tie.Need-returns-4
 returns-4 c =
     let at₁ = c .before .before .before in
     then-known _ 2 0 _ (at₁ .before .before .before .number .ensures) (at₁ .before .value .given .1)
     (one-no _ _ _ _ _ (c .before .before .if1 .left) (c .if3 .taken))
 
--- src/lib.rt:90:1
 returns-5 : tie.Need-returns-5
 returns-5 c =
     let at₁ = c .before .before .before in

@@ -1,42 +1,30 @@
+-- `lotlines::put_names` meets its contract. Assumes nothing.
 use Rattle.lotlines.proofs.Printing.{then-put, put-as, names-text}
 use borrow.Author.Needs.{needs}
 use Rattle.lotlines.proofs.put_names.Statement.{statement}
 use Rattle.lotlines.proofs.put_names.Tie as tie
-use Rattle.lotlines.proofs.put_names.Reads as reads
-use Rattle.lotlines.proofs.put_names.Lts as lts
-use Rattle.lotlines.proofs.letter_name.Reads as letter-name-reads
-use Rattle.lotlines.proofs.put_byte.Reads as put-byte-reads
-use Rattle.lotlines.proofs.severity_name.Reads as severity-name-reads
 
--- src/lib.rt:253:9
 put-byte-requires : tie.Need-put-byte-requires
 put-byte-requires c κs = search needs
 
--- src/lib.rt:254:38
 severity-name-requires : tie.Need-severity-name-requires
 severity-name-requires c κs = search needs
 
--- src/lib.rt:254:9
 put-byte-requires-2 : tie.Need-put-byte-requires-2
 put-byte-requires-2 c κs = search needs
 
--- src/lib.rt:255:9
 put-byte-requires-3 : tie.Need-put-byte-requires-3
 put-byte-requires-3 c κs = search needs
 
--- src/lib.rt:256:41
 letter-name-requires : tie.Need-letter-name-requires
 letter-name-requires c κs = search needs
 
--- src/lib.rt:256:9
 put-byte-requires-4 : tie.Need-put-byte-requires-4
 put-byte-requires-4 c κs = search needs
 
--- src/lib.rt:257:5
 put-byte-requires-5 : tie.Need-put-byte-requires-5
 put-byte-requires-5 c κs = search needs
 
--- src/lib.rt:249:1
 returns : tie.Need-returns
 returns c =
     let args = c .before .before .before .before .before .before .before .before .before .before .before .before

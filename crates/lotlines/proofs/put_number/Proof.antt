@@ -1,3 +1,4 @@
+-- `lotlines::put_number` meets its contract. Assumes nothing.
 use Prim.Native.Nat.{_+_, _≤_}
 use mathlib.Core.Path.{_≡_, refl, _∙_}
 use native.Mathlib.Omega.{arith}
@@ -9,9 +10,6 @@ use Rattle.rules.specs.Log.{decimal}
 use Rattle.lotlines.proofs.Printing.{digits-fewer, digit-one, digit-stored, first-stored}
 use Rattle.lotlines.proofs.put_number.Statement.{statement}
 use Rattle.lotlines.proofs.put_number.Tie as tie
-use Rattle.lotlines.proofs.put_number.Reads as reads
-use Rattle.lotlines.proofs.put_number.Lts as lts
-use Rattle.lotlines.proofs.digits.Reads as digits-reads
 
 abbrev Inv-loop : tie.InvT-loop
 Inv-loop out₀ at n end i₀ left₀ out i left =
@@ -23,39 +21,30 @@ Inv-loop out₀ at n end i₀ left₀ out i left =
 abbrev μ-loop : tie.MeasureT-loop
 μ-loop out₀ at n end i₀ left₀ out i left = left
 
--- src/lib.rt:160:20
 digits-requires : tie.Need-digits-requires Inv-loop μ-loop
 digits-requires c κs = search needs
 
--- src/lib.rt:160:15
 add-end : tie.Need-add-end Inv-loop μ-loop
 add-end c = omega arith
 
--- src/lib.rt:163:5
 loop-holds : tie.Need-loop-holds Inv-loop μ-loop
 loop-holds c = (omega arith, omega arith, omega arith, refl)
 
--- src/lib.rt:164:9
 sub-i : tie.Need-sub-i Inv-loop μ-loop
 sub-i c = omega (arith, digits-fewer (c .before .loop .left) (omega arith) (omega arith))
 
--- src/lib.rt:165:23
 cast-out : tie.Need-cast-out Inv-loop μ-loop
 cast-out c = omega (arith, mod-lt (c .before .loop .left) {m = 10} (omega arith))
 
--- src/lib.rt:165:18
 add-out : tie.Need-add-out Inv-loop μ-loop
 add-out c = omega (arith, mod-lt (c .before .loop .left) {m = 10} (omega arith))
 
--- src/lib.rt:165:9
 element-write-out : tie.Need-element-write-out Inv-loop μ-loop
 element-write-out c = omega arith
 
--- src/lib.rt:163:5
 loop-less : tie.Need-loop-less Inv-loop μ-loop
 loop-less c = div-lt-self (omega arith) (omega arith)
 
--- src/lib.rt:163:5
 loop-again : tie.Need-loop-again Inv-loop μ-loop
 loop-again c =
     let fewer = digits-fewer (c .before .loop .left) (omega arith) (omega arith) in (
@@ -66,19 +55,15 @@ loop-again c =
           .loop .inv .2) (omega arith) (omega arith) ∙ c .before .loop .inv .3,
     )
 
--- src/lib.rt:168:20
 cast-out-2 : tie.Need-cast-out-2 Inv-loop μ-loop
 cast-out-2 c = omega arith
 
--- src/lib.rt:168:15
 add-out-2 : tie.Need-add-out-2 Inv-loop μ-loop
 add-out-2 c = omega arith
 
--- src/lib.rt:168:5
 element-write-out-2 : tie.Need-element-write-out-2 Inv-loop μ-loop
 element-write-out-2 c = omega (arith, digit-one (c .before .loop .left) (omega arith))
 
--- src/lib.rt:156:1
 returns : tie.Need-returns Inv-loop μ-loop
 returns c =
     record {

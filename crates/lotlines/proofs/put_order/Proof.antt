@@ -1,36 +1,27 @@
+-- `lotlines::put_order` meets its contract. Assumes nothing.
 use native.Mathlib.Omega.{arith}
 use Rattle.rules.proofs.Decimals.{decimal-within}
 use Rattle.lotlines.proofs.Printing.{then-put, put-as, order-text}
 use borrow.Author.Needs.{needs}
 use Rattle.lotlines.proofs.put_order.Statement.{statement}
 use Rattle.lotlines.proofs.put_order.Tie as tie
-use Rattle.lotlines.proofs.put_order.Reads as reads
-use Rattle.lotlines.proofs.put_order.Lts as lts
-use Rattle.lotlines.proofs.put_after.Reads as put-after-reads
-use Rattle.lotlines.proofs.put_number.Reads as put-number-reads
-use Rattle.lotlines.proofs.put_text.Reads as put-text-reads
 
--- src/lib.rt:243:9
 put-number-requires : tie.Need-put-number-requires
 put-number-requires c κs = omega (arith, decimal-within 19 (c .before .args .line) (omega arith))
 
--- src/lib.rt:244:39
 slice-aggregate-put-text : tie.Need-slice-aggregate-put-text
 slice-aggregate-put-text c = search needs
 
--- src/lib.rt:244:9
 put-text-requires : tie.Need-put-text-requires
 put-text-requires c κs =
     let args = c .before .before .before .before .args in
     omega (arith, decimal-within 19 (args .line) (omega arith))
 
--- src/lib.rt:245:5
 put-after-requires : tie.Need-put-after-requires
 put-after-requires c κs =
     let first = c .before .before .before .before .before .before .args .line in
     omega (arith, decimal-within 19 first (omega arith))
 
--- src/lib.rt:240:1
 returns : tie.Need-returns
 returns c =
     let args = c .before .before .before .before .before .before .before .args in

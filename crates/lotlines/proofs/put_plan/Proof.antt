@@ -1,42 +1,32 @@
+-- `lotlines::put_plan` meets its contract. Assumes nothing.
 use native.Mathlib.Omega.{arith}
 use Rattle.rules.proofs.Decimals.{decimal-within}
 use Rattle.lotlines.proofs.Printing.{then-put, put-as, accept-text, reject-text, plan-length}
 use borrow.Author.Needs.{needs}
 use Rattle.lotlines.proofs.put_plan.Statement.{statement}
 use Rattle.lotlines.proofs.put_plan.Tie as tie
-use Rattle.lotlines.proofs.put_plan.Reads as reads
-use Rattle.lotlines.proofs.put_plan.Lts as lts
-use Rattle.lotlines.proofs.put_byte.Reads as put-byte-reads
-use Rattle.lotlines.proofs.put_number.Reads as put-number-reads
-use Rattle.lotlines.proofs.put_text.Reads as put-text-reads
 
--- src/lib.rt:265:9
 put-number-requires : tie.Need-put-number-requires
 put-number-requires c κs = omega (arith, decimal-within 4 (c .before .args .n) (omega arith))
 
--- src/lib.rt:266:9
 put-byte-requires : tie.Need-put-byte-requires
 put-byte-requires c κs =
     let args = c .before .before .before .args in
     omega (arith, decimal-within 4 (args .n) (omega arith))
 
--- src/lib.rt:267:9
 put-number-requires-2 : tie.Need-put-number-requires-2
 put-number-requires-2 c κs =
     let args = c .before .before .before .before .before .args in
     omega (arith, decimal-within 4 (args .n) (omega arith), decimal-within 4 (args .ac) (omega arith))
 
--- src/lib.rt:269:39
 slice-aggregate-put-text : tie.Need-slice-aggregate-put-text
 slice-aggregate-put-text c = search needs
 
--- src/lib.rt:269:9
 put-text-requires : tie.Need-put-text-requires
 put-text-requires c κs =
     let args = c .before .before .before .before .before .before .before .before .before .args in
     omega (arith, decimal-within 4 (args .n) (omega arith), decimal-within 4 (args .ac) (omega arith))
 
--- src/lib.rt:269:9
 returns : tie.Need-returns
 returns c =
     let start = c .before .before .before .before .before .before .before .before .before .before in
@@ -49,17 +39,14 @@ returns c =
     let ac = decimal-within 4 (start .args .ac) (omega arith) in
     (puts, omega (arith, puts .next, plan-length (start .args .n) (start .args .ac) (start .args .accepted) n ac))
 
--- src/lib.rt:271:28
 slice-aggregate-put-text-2 : tie.Need-slice-aggregate-put-text-2
 slice-aggregate-put-text-2 c = search needs
 
--- src/lib.rt:271:5
 put-text-requires-2 : tie.Need-put-text-requires-2
 put-text-requires-2 c κs =
     let args = c .before .before .before .before .before .before .before .before .before .args in
     omega (arith, decimal-within 4 (args .n) (omega arith), decimal-within 4 (args .ac) (omega arith))
 
--- src/lib.rt:261:1
 returns-2 : tie.Need-returns-2
 returns-2 c =
     let start = c .before .before .before .before .before .before .before .before .before .before in

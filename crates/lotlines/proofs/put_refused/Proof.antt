@@ -1,42 +1,32 @@
+-- `lotlines::put_refused` meets its contract. Assumes nothing.
 use native.Mathlib.Omega.{arith}
 use Rattle.rules.proofs.Decimals.{decimal-within}
 use Rattle.lotlines.proofs.Printing.{then-put, put-as, refused-text}
 use borrow.Author.Needs.{needs}
 use Rattle.lotlines.proofs.put_refused.Statement.{statement}
 use Rattle.lotlines.proofs.put_refused.Tie as tie
-use Rattle.lotlines.proofs.put_refused.Reads as reads
-use Rattle.lotlines.proofs.put_refused.Lts as lts
-use Rattle.lotlines.proofs.put_byte.Reads as put-byte-reads
-use Rattle.lotlines.proofs.put_number.Reads as put-number-reads
-use Rattle.lotlines.proofs.put_text.Reads as put-text-reads
 
--- src/lib.rt:233:9
 put-number-requires : tie.Need-put-number-requires
 put-number-requires c κs = omega (arith, decimal-within 19 (c .before .args .line) (omega arith))
 
--- src/lib.rt:234:39
 slice-aggregate-put-text : tie.Need-slice-aggregate-put-text
 slice-aggregate-put-text c = search needs
 
--- src/lib.rt:234:9
 put-text-requires : tie.Need-put-text-requires
 put-text-requires c κs =
     let args = c .before .before .before .before .args in
     omega (arith, decimal-within 19 (args .line) (omega arith))
 
--- src/lib.rt:235:9
 put-number-requires-2 : tie.Need-put-number-requires-2
 put-number-requires-2 c κs =
     let args = c .before .before .before .before .before .before .args in
     omega (arith, decimal-within 19 (args .line) (omega arith), decimal-within 2 (args .number) (omega arith))
 
--- src/lib.rt:236:5
 put-byte-requires : tie.Need-put-byte-requires
 put-byte-requires c κs =
     let args = c .before .before .before .before .before .before .before .before .args in
     omega (arith, decimal-within 19 (args .line) (omega arith), decimal-within 2 (args .number) (omega arith))
 
--- src/lib.rt:230:1
 returns : tie.Need-returns
 returns c =
     let first = c .before .before .before .before .before .before .before .put-number .ensures in

@@ -1,3 +1,4 @@
+-- `lotlines::put_text` meets its contract. Assumes nothing.
 use Prim.Native.Nat.{_+_, _-_, _≤_}
 use mathlib.Core.Path.{_≡_, _∙_}
 use native.Mathlib.Omega.{arith}
@@ -7,8 +8,6 @@ use lib.Seq.{sets}
 use Rattle.lotlines.proofs.Printing.{text-first, text-more, text-done}
 use Rattle.lotlines.proofs.put_text.Statement.{statement}
 use Rattle.lotlines.proofs.put_text.Tie as tie
-use Rattle.lotlines.proofs.put_text.Reads as reads
-use Rattle.lotlines.proofs.put_text.Lts as lts
 
 abbrev Inv-loop : tie.InvT-loop
 Inv-loop out₀ at text i₀ out i = (i ≤ length text) × (sets out (at + i) (drop i text) ≡ sets out₀ at text)
@@ -16,39 +15,30 @@ Inv-loop out₀ at text i₀ out i = (i ≤ length text) × (sets out (at + i) (
 abbrev μ-loop : tie.MeasureT-loop
 μ-loop out₀ at text i₀ out i = length text - i
 
--- src/lib.rt:178:5
 loop-holds : tie.Need-loop-holds Inv-loop μ-loop
 loop-holds c = search (needs, text-first)
 
--- src/lib.rt:179:23
 shared-slice-read-out : tie.Need-shared-slice-read-out Inv-loop μ-loop
 shared-slice-read-out c = search needs
 
--- src/lib.rt:179:13
 add-out : tie.Need-add-out Inv-loop μ-loop
 add-out c = search needs
 
--- src/lib.rt:179:9
 element-write-out : tie.Need-element-write-out Inv-loop μ-loop
 element-write-out c = search needs
 
--- src/lib.rt:180:9
 add-i : tie.Need-add-i Inv-loop μ-loop
 add-i c = search needs
 
--- src/lib.rt:178:5
 loop-less : tie.Need-loop-less Inv-loop μ-loop
 loop-less c = search needs
 
--- src/lib.rt:178:5
 loop-again : tie.Need-loop-again Inv-loop μ-loop
 loop-again c = (omega arith, text-more _ _ _ _ (c .before .loop-test .taken) ∙ c .before .before .loop .inv .1)
 
--- src/lib.rt:182:5
 add-result : tie.Need-add-result Inv-loop μ-loop
 add-result c = search needs
 
--- src/lib.rt:173:1
 returns : tie.Need-returns Inv-loop μ-loop
 returns c = search (needs, text-done)
 

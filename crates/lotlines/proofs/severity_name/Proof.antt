@@ -1,19 +1,15 @@
+-- `lotlines::severity_name` meets its contract. Assumes nothing.
 use Rattle.lotlines.proofs.Printing.{no-severity}
 use borrow.Author.Needs.{needs}
 use Rattle.lotlines.proofs.severity_name.Statement.{statement}
 use Rattle.lotlines.proofs.severity_name.Tie as tie
-use Rattle.lotlines.proofs.severity_name.Reads as reads
-use Rattle.lotlines.proofs.severity_name.Lts as lts
 
--- src/lib.rt:203:9
 array-read-result : tie.Need-array-read-result
 array-read-result c = search needs
 
--- src/lib.rt:199:1
 returns : tie.Need-returns
 returns c = search needs
 
--- src/lib.rt:199:1
 returns-2 : tie.Need-returns-2
 returns-2 c = search (needs, no-severity)
 

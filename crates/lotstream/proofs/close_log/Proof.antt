@@ -1,3 +1,4 @@
+-- `lotstream::close_log` meets its contract.
 use native.Mathlib.Omega.{arith}
 use mathlib.Core.Path.{refl, sym}
 use Rattle.lotstream.proofs.Room.{within-line, part-line}
@@ -34,41 +35,32 @@ filled c =
           .before .before .before .pre,
     )
 
--- src/lib.rt:107:9
 finish-requires : tie.Need-finish-requires
 finish-requires c κs = search needs
 
--- src/lib.rt:108:39
 array-share-prefix-line : tie.Need-array-share-prefix-line
 array-share-prefix-line c = within-line (c .before .finish .ensures) refl
 
--- src/lib.rt:108:39
 slice-aggregate-put : tie.Need-slice-aggregate-put
 slice-aggregate-put c = sym (part-line (c .before .before .finish .ensures) refl)
 
--- src/lib.rt:108:9
 put-requires : tie.Need-put-requires
 put-requires c κs =
     let shown = c .before .before .finish .ensures in
     omega (arith, shown .fits, part-line shown refl, c .before .before .before .before .before .pre)
 
--- src/lib.rt:109:34
 slice-reshare-prefix-write-all : tie.Need-slice-reshare-prefix-write-all
 slice-reshare-prefix-write-all c = filled (c .before .before)
 
--- src/lib.rt:109:34
 slice-aggregate-write-all : tie.Need-slice-aggregate-write-all
 slice-aggregate-write-all c = sym (length-take-le _ _ (filled (c .before .before .before)))
 
--- src/lib.rt:109:5
 write-all-requires : tie.Need-write-all-requires
 write-all-requires c κs = search needs
 
--- src/lib.rt:103:1
 same-length : tie.Need-same-length
 same-length c = search needs
 
--- src/lib.rt:103:1
 returns : tie.Need-returns
 returns c = search needs
 

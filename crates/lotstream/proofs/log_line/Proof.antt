@@ -1,3 +1,4 @@
+-- `lotstream::log_line` meets its contract.
 use native.Mathlib.Omega.{arith}
 use mathlib.Core.Path.{refl, sym}
 use Rattle.lotstream.proofs.Room.{within-line, part-line}
@@ -7,31 +8,21 @@ use Rattle.lotlines.specs.Paper.{paperHeld}
 use borrow.Author.Needs.{needs}
 use Rattle.lotstream.proofs.log_line.Statement.{statement}
 use Rattle.lotstream.proofs.log_line.Tie as tie
-use Rattle.lotstream.proofs.log_line.Reads as reads
-use Rattle.lotstream.proofs.log_line.Lts as lts
-use Rattle.lotlines.proofs.feed.Reads as feed-reads
-use Rattle.lotstream.proofs.make_room.Reads as make-room-reads
-use Rattle.lotstream.proofs.put.Reads as put-reads
 
--- src/lib.rt:48:9
 feed-requires : tie.Need-feed-requires
 feed-requires c κs = search needs
 
--- src/lib.rt:51:39
 array-share-prefix-line : tie.Need-array-share-prefix-line
 array-share-prefix-line c = within-line (c .before .before .feed .ensures .shown) refl
 
--- src/lib.rt:51:39
 slice-aggregate-put : tie.Need-slice-aggregate-put
 slice-aggregate-put c = sym (part-line (c .before .before .before .feed .ensures .shown) refl)
 
--- src/lib.rt:51:9
 put-requires : tie.Need-put-requires
 put-requires c κs =
     let shown = (c .before .before .before .feed .ensures .shown) in
     omega (arith, shown .fits, part-line shown refl, c .before .before .before .before .before .before .before .pre .1)
 
--- src/lib.rt:52:9
 make-room-requires : tie.Need-make-room-requires
 make-room-requires c κs =
     let shown = (c .before .before .before .before .before .before .before .feed .ensures .shown) in
@@ -46,11 +37,9 @@ make-room-requires c κs =
           .before .before .before .before .before .before .before .before .before .pre .1,
     )
 
--- src/lib.rt:43:1
 same-length : tie.Need-same-length
 same-length c = search needs
 
--- src/lib.rt:43:1
 returns : tie.Need-returns
 returns c =
     let start = c .before .before .before .before .before .before .before .before .before .before .before .before in

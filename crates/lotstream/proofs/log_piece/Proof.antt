@@ -1,3 +1,4 @@
+-- `lotstream::log_piece` meets its contract.
 use Prim.Native.Nat.{_+_, _-_, _≤_}
 use mathlib.Core.Path.{_≡_, refl}
 use native.Mathlib.Omega.{arith}
@@ -5,9 +6,6 @@ use borrow.Author.Needs.{needs}
 use lib.ListN.{length}
 use Rattle.lotstream.proofs.log_piece.Statement.{statement}
 use Rattle.lotstream.proofs.log_piece.Tie as tie
-use Rattle.lotstream.proofs.log_piece.Reads as reads
-use Rattle.lotstream.proofs.log_piece.Lts as lts
-use Rattle.lotstream.proofs.log_line.Reads as log-line-reads
 
 abbrev Inv-loop : tie.InvT-loop
 Inv-loop piece output₀ waiting held₀ left₀ at₀ output held left at =
@@ -16,43 +14,33 @@ Inv-loop piece output₀ waiting held₀ left₀ at₀ output held left at =
 abbrev μ-loop : tie.MeasureT-loop
 μ-loop piece output₀ waiting held₀ left₀ at₀ output held left at = length piece - at
 
--- src/lib.rt:68:5
 loop-holds : tie.Need-loop-holds Inv-loop μ-loop
 loop-holds c = (omega arith, omega (arith, c .before .before .pre), refl)
 
--- src/lib.rt:69:35
 sub-log-line : tie.Need-sub-log-line Inv-loop μ-loop
 sub-log-line c = omega arith
 
--- src/lib.rt:69:35
 part-log-line-start : tie.Need-part-log-line-start Inv-loop μ-loop
 part-log-line-start c = search needs
 
--- src/lib.rt:69:35
 part-log-line-end : tie.Need-part-log-line-end Inv-loop μ-loop
 part-log-line-end c = search needs
 
--- src/lib.rt:69:13
 log-line-requires : tie.Need-log-line-requires Inv-loop μ-loop
 log-line-requires c κs = search needs
 
--- src/lib.rt:73:9
 add-at : tie.Need-add-at Inv-loop μ-loop
 add-at c = search needs
 
--- src/lib.rt:68:5
 loop-less : tie.Need-loop-less Inv-loop μ-loop
 loop-less c = search needs
 
--- src/lib.rt:68:5
 loop-again : tie.Need-loop-again Inv-loop μ-loop
 loop-again c = search needs
 
--- src/lib.rt:61:1
 same-length : tie.Need-same-length Inv-loop μ-loop
 same-length c = search needs
 
--- src/lib.rt:61:1
 returns : tie.Need-returns Inv-loop μ-loop
 returns c = search needs
 

@@ -1,29 +1,22 @@
+-- `lotstream::make_room` meets its contract.
 use mathlib.Core.Path.{sym}
 use lib.Seq.{length-take-le}
 use borrow.Author.Needs.{needs}
 use Rattle.lotstream.proofs.make_room.Statement.{statement}
 use Rattle.lotstream.proofs.make_room.Tie as tie
-use Rattle.lotstream.proofs.make_room.Reads as reads
-use Rattle.lotstream.proofs.make_room.Lts as lts
-use Rattle.io.proofs.write_all.Reads as write-all-reads
 
--- src/lib.rt:28:8
 add-if1 : tie.Need-add-if1
 add-if1 c = search needs
 
--- src/lib.rt:29:9
 returns : tie.Need-returns
 returns c = search needs
 
--- src/lib.rt:31:34
 slice-aggregate-write-all : tie.Need-slice-aggregate-write-all
 slice-aggregate-write-all c = sym (length-take-le _ _ (search needs))
 
--- src/lib.rt:31:5
 write-all-requires : tie.Need-write-all-requires
 write-all-requires c κs = search needs
 
--- src/lib.rt:24:1
 returns-2 : tie.Need-returns-2
 returns-2 c = search needs
 

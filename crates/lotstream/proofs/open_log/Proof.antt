@@ -1,37 +1,28 @@
+-- `lotstream::open_log` meets its contract.
 use native.Mathlib.Omega.{arith}
 use mathlib.Core.Path.{refl}
 use Rattle.lotstream.proofs.Room.{within-line, part-line}
 use borrow.Author.Needs.{needs}
 use Rattle.lotstream.proofs.open_log.Statement.{statement}
 use Rattle.lotstream.proofs.open_log.Tie as tie
-use Rattle.lotstream.proofs.open_log.Reads as reads
-use Rattle.lotstream.proofs.open_log.Lts as lts
-use Rattle.lotlines.proofs.header.Reads as header-reads
-use Rattle.lotstream.proofs.put.Reads as put-reads
 
--- src/lib.rt:98:9
 header-requires : tie.Need-header-requires
 header-requires c κs = search needs
 
--- src/lib.rt:99:20
 array-share-prefix-line : tie.Need-array-share-prefix-line
 array-share-prefix-line c = within-line (c .before .header .ensures) refl
 
--- src/lib.rt:99:20
 slice-aggregate-put : tie.Need-slice-aggregate-put
 slice-aggregate-put c = search needs
 
--- src/lib.rt:99:5
 put-requires : tie.Need-put-requires
 put-requires c κs =
     let shown = c .before .before .header .ensures in
     omega (arith, shown .fits, part-line shown refl, c .before .before .before .before .before .pre)
 
--- src/lib.rt:93:1
 same-length : tie.Need-same-length
 same-length c = search needs
 
--- src/lib.rt:93:1
 returns : tie.Need-returns
 returns c =
     let shown = c .before .before .before .before .before .header .ensures in

@@ -1,3 +1,4 @@
+-- `lotstream::put` meets its contract.
 use Prim.Native.Nat.{_-_, _≤_}
 use mathlib.Core.Path.{_≡_, refl}
 use native.Mathlib.Omega.{arith}
@@ -5,8 +6,6 @@ use borrow.Author.Needs.{needs}
 use lib.ListN.{length}
 use Rattle.lotstream.proofs.put.Statement.{statement}
 use Rattle.lotstream.proofs.put.Tie as tie
-use Rattle.lotstream.proofs.put.Reads as reads
-use Rattle.lotstream.proofs.put.Lts as lts
 
 abbrev Inv-loop : tie.InvT-loop
 Inv-loop output₀ waiting line i₀ output i = (i ≤ length line) × (length output ≡ length output₀)
@@ -14,43 +13,33 @@ Inv-loop output₀ waiting line i₀ output i = (i ≤ length line) × (length o
 abbrev μ-loop : tie.MeasureT-loop
 μ-loop output₀ waiting line i₀ output i = length line - i
 
--- src/lib.rt:16:5
 loop-holds : tie.Need-loop-holds Inv-loop μ-loop
 loop-holds c = (omega arith, refl)
 
--- src/lib.rt:17:31
 shared-slice-read-output : tie.Need-shared-slice-read-output Inv-loop μ-loop
 shared-slice-read-output c = search needs
 
--- src/lib.rt:17:16
 add-output : tie.Need-add-output Inv-loop μ-loop
 add-output c = omega arith
 
--- src/lib.rt:17:9
 slice-write-output : tie.Need-slice-write-output Inv-loop μ-loop
 slice-write-output c = omega arith
 
--- src/lib.rt:18:9
 add-i : tie.Need-add-i Inv-loop μ-loop
 add-i c = search needs
 
--- src/lib.rt:16:5
 loop-less : tie.Need-loop-less Inv-loop μ-loop
 loop-less c = search needs
 
--- src/lib.rt:16:5
 loop-again : tie.Need-loop-again Inv-loop μ-loop
 loop-again c = search needs
 
--- src/lib.rt:20:5
 add-result : tie.Need-add-result Inv-loop μ-loop
 add-result c = omega arith
 
--- src/lib.rt:11:1
 same-length : tie.Need-same-length Inv-loop μ-loop
 same-length c = search needs
 
--- src/lib.rt:11:1
 returns : tie.Need-returns Inv-loop μ-loop
 returns c = omega arith
 

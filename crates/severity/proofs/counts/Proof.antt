@@ -1,18 +1,14 @@
+-- `severity::counts` meets its contract. Assumes nothing.
 use Rattle.severity.proofs.Laws.{counts-points, counts-zero, counts-bad}
 use Rattle.severity.proofs.counts.Statement.{statement}
 use Rattle.severity.proofs.counts.Tie as tie
-use Rattle.severity.proofs.counts.Reads as reads
-use Rattle.severity.proofs.counts.Lts as lts
 
--- src/lib.rt:368:13
 returns : tie.Need-returns
 returns c = search counts-points
 
--- src/lib.rt:370:9
 returns-2 : tie.Need-returns-2
 returns-2 c = search counts-zero
 
--- src/lib.rt:363:1
 returns-3 : tie.Need-returns-3
 returns-3 c = search counts-bad
 

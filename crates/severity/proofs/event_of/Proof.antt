@@ -1,61 +1,49 @@
+-- `severity::event_of` meets its contract. Assumes nothing.
 use Rattle.rules.specs.History.{eventIn, eventOf}
 use Rattle.severity.proofs.Laws.{byte-is, byte-unknown}
 use Rattle.severity.proofs.event_of.Statement.{statement}
 use Rattle.severity.proofs.event_of.Tie as tie
-use Rattle.severity.proofs.event_of.Reads as reads
-use Rattle.severity.proofs.event_of.Lts as lts
 
--- src/lib.rt:338:1
 returns : tie.Need-returns
 unfolding eventIn eventOf
 returns c = search byte-is
 
--- src/lib.rt:338:1
 returns-2 : tie.Need-returns-2
 unfolding eventIn eventOf
 returns-2 c = search byte-is
 
--- src/lib.rt:338:1
 returns-3 : tie.Need-returns-3
 unfolding eventIn eventOf
 returns-3 c = search byte-is
 
--- src/lib.rt:338:1
 returns-4 : tie.Need-returns-4
 unfolding eventIn eventOf
 returns-4 c = search byte-is
 
--- src/lib.rt:338:1
 returns-5 : tie.Need-returns-5
 unfolding eventIn eventOf
 returns-5 c = search byte-is
 
--- src/lib.rt:338:1
 returns-6 : tie.Need-returns-6
 unfolding eventIn eventOf
 returns-6 c = search byte-is
 
--- src/lib.rt:338:1
 returns-7 : tie.Need-returns-7
 unfolding eventIn eventOf
 returns-7 c = search byte-is
 
--- src/lib.rt:338:1
 returns-8 : tie.Need-returns-8
 unfolding eventIn eventOf
 returns-8 c = search byte-is
 
--- src/lib.rt:338:1
 returns-9 : tie.Need-returns-9
 unfolding eventIn eventOf
 returns-9 c = search byte-is
 
--- src/lib.rt:338:1
 returns-10 : tie.Need-returns-10
 unfolding eventIn eventOf
 returns-10 c = search byte-is
 
--- src/lib.rt:338:1
 returns-11 : tie.Need-returns-11
 unfolding eventIn eventOf
 returns-11 c = search byte-unknown

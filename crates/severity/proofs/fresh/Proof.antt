@@ -1,9 +1,7 @@
+-- `severity::fresh` meets its contract. Assumes nothing.
 use borrow.Author.Needs.{needs}
 use Rattle.severity.proofs.fresh.Statement.{statement}
 use Rattle.severity.proofs.fresh.Tie as tie
-use Rattle.severity.proofs.fresh.Reads as reads
-use Rattle.severity.proofs.fresh.Lts as lts
-use Rattle.severity.proofs.normal.Reads as normal-reads
 
 normal-requires : tie.Need-normal-requires
 normal-requires c κs = search needs

@@ -1,18 +1,14 @@
+-- `severity::is_due` meets its contract. Assumes nothing.
 use Rattle.severity.proofs.Laws.{due-low, due-steady, due-unsteady}
 use Rattle.severity.proofs.is_due.Statement.{statement}
 use Rattle.severity.proofs.is_due.Tie as tie
-use Rattle.severity.proofs.is_due.Reads as reads
-use Rattle.severity.proofs.is_due.Lts as lts
 
--- src/lib.rt:87:9
 returns : tie.Need-returns
 returns c = search due-low
 
--- src/lib.rt:90:9
 returns-2 : tie.Need-returns-2
 returns-2 c = search due-steady
 
--- src/lib.rt:83:1
 returns-3 : tie.Need-returns-3
 returns-3 c = search due-unsteady
 

@@ -1,28 +1,21 @@
+-- `severity::normal_in_range` meets its contract. Assumes nothing.
 use borrow.Author.Needs.{needs}
 use Rattle.severity.proofs.Laws.{normal-score, normal-window, normal-ones, normal-rest}
 use Rattle.severity.proofs.normal_in_range.Statement.{statement}
 use Rattle.severity.proofs.normal_in_range.Tie as tie
-use Rattle.severity.proofs.normal_in_range.Reads as reads
-use Rattle.severity.proofs.normal_in_range.Lts as lts
-use Rattle.severity.proofs.both_zero.Reads as both-zero-reads
 
--- src/lib.rt:280:9
 returns : tie.Need-returns
 returns c = search normal-score
 
--- src/lib.rt:283:9
 returns-2 : tie.Need-returns-2
 returns-2 c = search normal-window
 
--- src/lib.rt:286:9
 returns-3 : tie.Need-returns-3
 returns-3 c = search normal-ones
 
--- src/lib.rt:288:5
 both-zero-requires : tie.Need-both-zero-requires
 both-zero-requires c κs = search needs
 
--- src/lib.rt:276:1
 returns-4 : tie.Need-returns-4
 returns-4 c = search normal-rest
 

@@ -1,14 +1,11 @@
+-- `severity::on_resubmitted` meets its contract. Assumes nothing.
 use Rattle.severity.proofs.Laws.{again-refused, again-given}
 use Rattle.severity.proofs.on_resubmitted.Statement.{statement}
 use Rattle.severity.proofs.on_resubmitted.Tie as tie
-use Rattle.severity.proofs.on_resubmitted.Reads as reads
-use Rattle.severity.proofs.on_resubmitted.Lts as lts
 
--- src/lib.rt:220:9
 returns : tie.Need-returns
 returns c = search again-refused
 
--- src/lib.rt:216:1
 returns-2 : tie.Need-returns-2
 returns-2 c = search again-given
 

@@ -1,14 +1,11 @@
+-- `severity::staged_points` meets its contract. Assumes nothing.
 use Rattle.severity.proofs.Laws.{staged-three, staged-zero}
 use Rattle.severity.proofs.staged_points.Statement.{statement}
 use Rattle.severity.proofs.staged_points.Tie as tie
-use Rattle.severity.proofs.staged_points.Reads as reads
-use Rattle.severity.proofs.staged_points.Lts as lts
 
--- src/lib.rt:391:9
 returns : tie.Need-returns
 returns c = search staged-three
 
--- src/lib.rt:387:1
 returns-2 : tie.Need-returns-2
 returns-2 c = search staged-zero
 

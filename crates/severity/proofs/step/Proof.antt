@@ -1,80 +1,58 @@
+-- `severity::step` meets its contract. Assumes nothing.
 use borrow.Author.Needs.{needs}
 use Rattle.severity.proofs.Laws.{step-lot, step-resubmitted, step-steady, step-permission, step-corrective}
 use Rattle.severity.proofs.Laws.{step-unknown}
 use Rattle.severity.proofs.step.Statement.{statement}
 use Rattle.severity.proofs.step.Tie as tie
-use Rattle.severity.proofs.step.Reads as reads
-use Rattle.severity.proofs.step.Lts as lts
-use Rattle.severity.proofs.on_corrective.Reads as on-corrective-reads
-use Rattle.severity.proofs.on_lot.Reads as on-lot-reads
-use Rattle.severity.proofs.on_order.Reads as on-order-reads
-use Rattle.severity.proofs.on_resubmitted.Reads as on-resubmitted-reads
 
--- src/lib.rt:258:23
 enum-known-event : tie.Need-enum-known-event
 enum-known-event c = search needs
 
--- src/lib.rt:258:31
 on-lot-requires : tie.Need-on-lot-requires
 on-lot-requires c κs = search needs
 
--- src/lib.rt:259:31
 enum-told : tie.Need-enum-told
 enum-told c = search needs
 
--- src/lib.rt:259:31
 on-resubmitted-requires : tie.Need-on-resubmitted-requires
 on-resubmitted-requires c κs = search needs
 
--- src/lib.rt:260:23
 enum-known-event-2 : tie.Need-enum-known-event-2
 enum-known-event-2 c = search needs
 
--- src/lib.rt:260:49
 on-order-requires : tie.Need-on-order-requires
 on-order-requires c κs = search needs
 
--- src/lib.rt:261:27
 enum-known-event-3 : tie.Need-enum-known-event-3
 enum-known-event-3 c = search needs
 
--- src/lib.rt:261:53
 on-order-requires-2 : tie.Need-on-order-requires-2
 on-order-requires-2 c κs = search needs
 
--- src/lib.rt:262:30
 enum-told-2 : tie.Need-enum-told-2
 enum-told-2 c = search needs
 
--- src/lib.rt:262:30
 on-corrective-requires : tie.Need-on-corrective-requires
 on-corrective-requires c κs = search needs
 
--- src/lib.rt:263:27
 enum-told-3 : tie.Need-enum-told-3
 enum-told-3 c = search needs
 
--- src/lib.rt:254:1
 returns : tie.Need-returns
 returns c = search step-lot
 
--- src/lib.rt:254:1
 returns-2 : tie.Need-returns-2
 returns-2 c = search step-resubmitted
 
--- src/lib.rt:254:1
 returns-3 : tie.Need-returns-3
 returns-3 c = search step-steady
 
--- src/lib.rt:254:1
 returns-4 : tie.Need-returns-4
 returns-4 c = search step-permission
 
--- src/lib.rt:254:1
 returns-5 : tie.Need-returns-5
 returns-5 c = search step-corrective
 
--- src/lib.rt:254:1
 returns-6 : tie.Need-returns-6
 returns-6 c = search step-unknown
 

@@ -1,24 +1,18 @@
+-- `severity::tightened_in_range` meets its contract. Assumes nothing.
 use borrow.Author.Needs.{needs}
 use Rattle.severity.proofs.Laws.{tightened-long, tightened-many, tightened-rest}
 use Rattle.severity.proofs.tightened_in_range.Statement.{statement}
 use Rattle.severity.proofs.tightened_in_range.Tie as tie
-use Rattle.severity.proofs.tightened_in_range.Reads as reads
-use Rattle.severity.proofs.tightened_in_range.Lts as lts
-use Rattle.severity.proofs.both_zero.Reads as both-zero-reads
 
--- src/lib.rt:295:9
 returns : tie.Need-returns
 returns c = search tightened-long
 
--- src/lib.rt:298:9
 returns-2 : tie.Need-returns-2
 returns-2 c = search tightened-many
 
--- src/lib.rt:300:5
 both-zero-requires : tie.Need-both-zero-requires
 both-zero-requires c κs = search needs
 
--- src/lib.rt:291:1
 returns-3 : tie.Need-returns-3
 returns-3 c = search tightened-rest
 

@@ -1,3 +1,4 @@
+-- `severity::walk_history` meets its contract. Assumes nothing.
 use Prim.Native.Nat.{_≤_, _-_}
 use mathlib.Core.Path.{_≡_, ap, _∙_}
 use mathlib.Core.Logic.{⊎-elim}
@@ -11,9 +12,6 @@ use Rattle.severity.proofs.Laws.{stepped-given, stepped-refused}
 use Rattle.severity.proofs.Walk.{walked-first, walked-bad, walked-more, walked-on, walked-whole}
 use Rattle.severity.proofs.walk_history.Statement.{statement}
 use Rattle.severity.proofs.walk_history.Tie as tie
-use Rattle.severity.proofs.walk_history.Reads as reads
-use Rattle.severity.proofs.walk_history.Lts as lts
-use Rattle.severity.proofs.step_byte.Reads as step-byte-reads
 
 abbrev Inv-loop : tie.InvT-loop
 Inv-loop history out₀ writes held₀ i₀ out held i =
@@ -25,51 +23,40 @@ Inv-loop history out₀ writes held₀ i₀ out held i =
 abbrev μ-loop : tie.MeasureT-loop
 μ-loop history out₀ writes held₀ i₀ out held i = length history - i
 
--- src/lib.rt:381:5
 loop-holds : tie.Need-loop-holds Inv-loop μ-loop
 loop-holds c = search (needs, from-first, walked-first)
 
--- src/lib.rt:382:38
 shared-slice-read-step-byte : tie.Need-shared-slice-read-step-byte Inv-loop μ-loop
 shared-slice-read-step-byte c = search needs
 
--- src/lib.rt:382:13
 step-byte-requires : tie.Need-step-byte-requires Inv-loop μ-loop
 step-byte-requires c κs = search needs
 
--- src/lib.rt:384:28
 enum-known-answer : tie.Need-enum-known-answer Inv-loop μ-loop
 enum-known-answer c = search needs
 
--- src/lib.rt:387:30
 enum-known-answer-2 : tie.Need-enum-known-answer-2 Inv-loop μ-loop
 enum-known-answer-2 c = search needs
 
--- src/lib.rt:388:17
 same-length : tie.Need-same-length Inv-loop μ-loop
 same-length c = search needs
 
--- src/lib.rt:388:17
 returns : tie.Need-returns Inv-loop μ-loop
 returns c =
     let q = stepped-refused (c .before .answer2 .given .1) (c .before .before .before .step-byte .ensures) in
     search (needs, walked-bad)
 
--- src/lib.rt:392:13
 slice-write-out : tie.Need-slice-write-out Inv-loop μ-loop
 slice-write-out c =
     let w = c .before .before .before .before .before .before .before .before .before .before .pre (c .if1 .taken) in
     search needs
 
--- src/lib.rt:394:9
 add-i : tie.Need-add-i Inv-loop μ-loop
 add-i c = search needs
 
--- src/lib.rt:381:5
 loop-less : tie.Need-loop-less Inv-loop μ-loop
 loop-less c = search needs
 
--- src/lib.rt:381:5
 loop-again : tie.Need-loop-again Inv-loop μ-loop
 loop-again c =
     let b = c .before .before in
@@ -81,11 +68,9 @@ loop-again c =
     (λ w. (search needs, a, w .1 ∙ walked-on _ _ _ _ _ _ (inv .2) (w .0 .left), search (needs, ap length (w .1))))
     (c .if1 .came)
 
--- src/lib.rt:375:1
 same-length-2 : tie.Need-same-length-2 Inv-loop μ-loop
 same-length-2 c = search needs
 
--- src/lib.rt:375:1
 returns-2 : tie.Need-returns-2 Inv-loop μ-loop
 returns-2 c = search (needs, walked-whole)
 
