@@ -2,7 +2,12 @@
 ghost use Prim.Native.Nat.{_+_, _<_, _≤_};
 ghost use mathlib.Core.Path.{_≡_};
 ghost use lib.ListN.{length};
-ghost use Rattle.lotstream.specs.Turns.{Turns};
+ghost use lib.Seq.{sets};
+ghost use Rattle.rules.specs.History.{ours};
+ghost use Rattle.rules.specs.Log.{header};
+ghost use Rattle.rules.specs.Feeding.{finished};
+ghost use Rattle.lotlines.specs.Paper.{paperHeld};
+ghost use Rattle.lotstream.specs.Turns.{PutAfter, waitingAfter, LineLogged, PieceLogged};
 use libc::STDIN_FILENO;
 use libc::STDOUT_FILENO;
 use lotlines::State;
@@ -10,7 +15,7 @@ use lotlines::State;
 // The bytes of a line are put after those that wait to be written.
 fn put(output: &mut [u8], waiting: usize, line: &[u8]) -> usize
     requires { ⌜ waiting + length (now line) ≤ length (now output) ⌝ }
-    ensures { λ r. ⌜ r ≡ waiting + length (now (line .entry)) ⌝ }
+    ensures { λ r. ⌜ PutAfter waiting (now (line .entry)) (now (output .entry)) (now (output .exit)) r ⌝ }
 {
     let mut i: usize = 0;
     while i < line.len() {
@@ -23,7 +28,8 @@ fn put(output: &mut [u8], waiting: usize, line: &[u8]) -> usize
 // What waits is written where another line might find no room.
 fn make_room(output: &[u8], waiting: usize) -> usize
     requires { ⌜ (waiting ≤ length (now output)) × (50 ≤ length (now output)) ⌝ }
-    ensures { λ r. ⌜ r + 50 ≤ length (now (output .entry)) ⌝ }
+    ensures { λ r. ⌜ (r ≡ waitingAfter waiting (length (now (output .entry))))
+        × (r + 50 ≤ length (now (output .entry))) ⌝ }
 {
     if waiting + 50 <= output.len() {
         return waiting;
@@ -42,7 +48,7 @@ struct Turn {
 // One line.
 fn log_line(state: State, piece: &[u8], output: &mut [u8], waiting: usize) -> Turn
     requires { ⌜ (0 < length (now piece)) × (waiting + 50 ≤ length (now output)) ⌝ }
-    ensures { λ r. ⌜ Turns (length (now (piece .entry))) (length (now (output .entry))) r ⌝ }
+    ensures { λ r. ⌜ LineLogged state (now (piece .entry)) waiting (now (output .entry)) (now (output .exit)) r ⌝ }
 {
     let mut line = [0u8; 50];
     let fed = lotlines::feed(state, piece, &mut line);
@@ -57,10 +63,10 @@ fn log_line(state: State, piece: &[u8], output: &mut [u8], waiting: usize) -> Tu
     }
 }
 
-// The lines of one piece.
+// The lines of one piece: every byte of it, once and in order.
 fn log_piece(state: State, piece: &[u8], output: &mut [u8], waiting: usize) -> Turn
     requires { ⌜ waiting + 50 ≤ length (now output) ⌝ }
-    ensures { λ r. ⌜ r .waiting + 50 ≤ length (now (output .entry)) ⌝ }
+    ensures { λ r. ⌜ PieceLogged state (now (piece .entry)) (length (now (output .entry))) r ⌝ }
 {
     let mut held = state;
     let mut left = waiting;
@@ -92,7 +98,8 @@ fn read_piece(state: State, input: &mut [u8], output: &mut [u8], waiting: usize)
 // The header is put first.
 fn open_log(output: &mut [u8]) -> usize
     requires { ⌜ 100 ≤ length (now output) ⌝ }
-    ensures { λ r. ⌜ r + 50 ≤ length (now (output .entry)) ⌝ }
+    ensures { λ r. ⌜ PutAfter 0 header (now (output .entry)) (now (output .exit)) r
+        × (r + 50 ≤ length (now (output .entry))) ⌝ }
 {
     let mut line = [0u8; 50];
     let written = lotlines::header(&mut line);
@@ -102,6 +109,7 @@ fn open_log(output: &mut [u8]) -> usize
 // The last line may lack its newline; then all that waits is written.
 fn close_log(state: State, output: &mut [u8], waiting: usize)
     requires { ⌜ waiting + 50 ≤ length (now output) ⌝ }
+    ensures { λ _. ⌜ now (output .exit) ≡ sets (now (output .entry)) waiting (finished ours (paperHeld state)) ⌝ }
 {
     let mut line = [0u8; 50];
     let written = lotlines::finish(state, &mut line);

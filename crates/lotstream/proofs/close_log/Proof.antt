@@ -1,7 +1,7 @@
 -- `lotstream::close_log` meets its contract.
 use native.Mathlib.Omega.{arith}
 use mathlib.Core.Path.{refl, sym}
-use Rattle.lotstream.proofs.Room.{within-line, part-line}
+use Rattle.lotstream.proofs.Room.{within-line, part-line, line-text, put-as}
 use lib.Seq.{length-take-le}
 use Prim.Native.Nat.{_≤_}
 use lib.ListN.{length}
@@ -29,7 +29,7 @@ filled c =
       arith,
       shown .fits,
       part-line shown refl,
-      c .put .ensures,
+      c .put .ensures .next,
       c .put .kept .0,
       c .before .before .before
           .before .before .before .pre,
@@ -62,7 +62,9 @@ same-length : tie.Need-same-length
 same-length c = search needs
 
 returns : tie.Need-returns
-returns c = search needs
+returns c =
+    let at = c .before .before .before .before in
+    put-as (line-text (at .before .before .before .finish .ensures) refl) (at .put .ensures) .stored
 
 pub close-log-spec : {M : Type 1} → statement M
 close-log-spec =

@@ -1,7 +1,7 @@
 -- `lotstream::log_line` meets its contract.
 use native.Mathlib.Omega.{arith}
 use mathlib.Core.Path.{refl, sym}
-use Rattle.lotstream.proofs.Room.{within-line, part-line}
+use Rattle.lotstream.proofs.Room.{within-line, part-line, line-text, put-as}
 use Rattle.rules.specs.History.{ours}
 use Rattle.rules.proofs.Feeding.{some-taken, taken-within}
 use Rattle.lotlines.specs.Paper.{paperHeld}
@@ -32,7 +32,7 @@ make-room-requires c κs =
       kept,
       shown .fits,
       part-line shown refl,
-      c .before .before .before .put .ensures,
+      c .before .before .before .put .ensures .next,
       c .before .before
           .before .before .before .before .before .before .before .before .before .pre .1,
     )
@@ -47,14 +47,15 @@ returns c =
     let some = some-taken ours (paperHeld (start .args .state)) (start .args .piece .now) (start .pre .0) in
     let within = taken-within ours (paperHeld (start .args .state)) (start .args .piece .now) in
     let kept = c .before .before .before .before .put .kept .0 in
+    let put = put-as (line-text (fed .shown) refl) (c .before .before .before .before .put .ensures) in
     record {
       some = omega (arith, fed .taken, some);
       within = omega (arith, fed .taken, within);
-      room = omega (
-        arith,
-        kept,
-        c .make-room .ensures,
-      );
+      held = fed .held;
+      taken = fed .taken;
+      stored = put .stored;
+      left = rw (← put .next, ← kept) (c .make-room .ensures .0);
+      room = omega (arith, kept, c .make-room .ensures .1);
     }
 
 pub log-line-spec : {M : Type 1} → statement M

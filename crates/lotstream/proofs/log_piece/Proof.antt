@@ -1,21 +1,29 @@
 -- `lotstream::log_piece` meets its contract.
 use Prim.Native.Nat.{_+_, _-_, _≤_}
-use mathlib.Core.Path.{_≡_, refl}
+use mathlib.Core.Path.{_≡_, refl, sym, _∙_}
 use native.Mathlib.Omega.{arith}
 use borrow.Author.Needs.{needs}
-use lib.ListN.{length}
+use borrow.Rule.Slice.PartAt.{part-to-end}
+use lib.ListN.{length, drop}
+use Rattle.rules.specs.History.{ours}
+use Rattle.lotlines.specs.Paper.{paperHeld}
+use Rattle.lotstream.specs.Turns.{afterBytes}
+use Rattle.lotstream.proofs.Room.{after-line, after-all}
 use Rattle.lotstream.proofs.log_piece.Statement.{statement}
 use Rattle.lotstream.proofs.log_piece.Tie as tie
 
 abbrev Inv-loop : tie.InvT-loop
 Inv-loop piece output₀ waiting held₀ left₀ at₀ output held left at =
-    (at ≤ length piece) × (left + 50 ≤ length output) × (length output ≡ length output₀)
+    (at ≤ length piece)
+    × (left + 50 ≤ length output)
+    × (length output ≡ length output₀)
+    × (afterBytes ours (paperHeld held) (drop at piece) ≡ afterBytes ours (paperHeld held₀) piece)
 
 abbrev μ-loop : tie.MeasureT-loop
 μ-loop piece output₀ waiting held₀ left₀ at₀ output held left at = length piece - at
 
 loop-holds : tie.Need-loop-holds Inv-loop μ-loop
-loop-holds c = (omega arith, omega (arith, c .before .before .pre), refl)
+loop-holds c = (omega arith, omega (arith, c .before .before .pre), refl, refl)
 
 sub-log-line : tie.Need-sub-log-line Inv-loop μ-loop
 sub-log-line c = omega arith
@@ -36,13 +44,31 @@ loop-less : tie.Need-loop-less Inv-loop μ-loop
 loop-less c = search needs
 
 loop-again : tie.Need-loop-again Inv-loop μ-loop
-loop-again c = search needs
+loop-again c =
+    let loop = c .before .before .before .before .before .before .before .before .loop in
+    let line = c .before .before .before .before .log-line in
+    let piece =
+    c .before .before .before .before .before .before .before .before .before .before .before .args .piece .now in (
+      search needs,
+      search needs,
+      search needs,
+      after-line ours (paperHeld (loop .held)) _ piece _ (loop .at) _ (part-to-end piece (loop .at))
+          (line .ensures .held)
+          (line .ensures .taken)
+          ∙ loop .inv .3,
+    )
 
 same-length : tie.Need-same-length Inv-loop μ-loop
 same-length c = search needs
 
 returns : tie.Need-returns Inv-loop μ-loop
-returns c = search needs
+returns c =
+    let loop = c .before .loop in
+    record {
+      held = sym (after-all ours _ _ (loop .at) (search needs)) ∙ loop .inv .3;
+      taken = search needs;
+      room = search needs;
+    }
 
 pub log-piece-spec : {M : Type 1} → statement M
 log-piece-spec =

@@ -2,6 +2,7 @@
 use mathlib.Core.Path.{sym}
 use lib.Seq.{length-take-le}
 use borrow.Author.Needs.{needs}
+use Rattle.lotstream.proofs.Room.{still-waits, none-waits}
 use Rattle.lotstream.proofs.make_room.Statement.{statement}
 use Rattle.lotstream.proofs.make_room.Tie as tie
 
@@ -9,7 +10,7 @@ add-if1 : tie.Need-add-if1
 add-if1 c = search needs
 
 returns : tie.Need-returns
-returns c = search needs
+returns c = (search (needs, still-waits), search needs)
 
 slice-aggregate-write-all : tie.Need-slice-aggregate-write-all
 slice-aggregate-write-all c = sym (length-take-le _ _ (search needs))
@@ -18,7 +19,7 @@ write-all-requires : tie.Need-write-all-requires
 write-all-requires c κs = search needs
 
 returns-2 : tie.Need-returns-2
-returns-2 c = search needs
+returns-2 c = (search (needs, none-waits), search needs)
 
 pub make-room-spec : {M : Type 1} → statement M
 make-room-spec =

@@ -1,7 +1,7 @@
 -- `lotstream::open_log` meets its contract.
 use native.Mathlib.Omega.{arith}
 use mathlib.Core.Path.{refl}
-use Rattle.lotstream.proofs.Room.{within-line, part-line}
+use Rattle.lotstream.proofs.Room.{within-line, part-line, line-text, put-as}
 use borrow.Author.Needs.{needs}
 use Rattle.lotstream.proofs.open_log.Statement.{statement}
 use Rattle.lotstream.proofs.open_log.Tie as tie
@@ -26,14 +26,9 @@ same-length c = search needs
 returns : tie.Need-returns
 returns c =
     let shown = c .before .before .before .before .before .header .ensures in
-    omega (
-      arith,
-      shown .fits,
-      part-line shown refl,
-      c .before .before .put .ensures,
-      c .before .before .before
-          .before .before .before .before .before .pre,
-    )
+    let put = c .before .before .put .ensures in
+    let pre = c .before .before .before .before .before .before .before .before .pre in
+    (put-as (line-text shown refl) put, omega (arith, shown .fits, part-line shown refl, put .next, pre))
 
 pub open-log-spec : {M : Type 1} → statement M
 open-log-spec =
