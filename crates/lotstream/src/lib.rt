@@ -66,7 +66,7 @@ fn log_line(state: State, piece: &[u8], output: &mut [u8], waiting: usize) -> Tu
 // The lines of one piece: every byte of it, once and in order.
 fn log_piece(state: State, piece: &[u8], output: &mut [u8], waiting: usize) -> Turn
     requires { ⌜ waiting + 50 ≤ length (now output) ⌝ }
-    ensures { λ r. ⌜ PieceLogged state (now (piece .entry)) (length (now (output .entry))) r ⌝ }
+    ensures { λ r. ⌜ PieceLogged state (now (piece .entry)) waiting (now (output .entry)) (now (output .exit)) r ⌝ }
 {
     let mut held = state;
     let mut left = waiting;

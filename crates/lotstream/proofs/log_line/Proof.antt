@@ -53,6 +53,7 @@ returns c =
       within = omega (arith, fed .taken, within);
       held = fed .held;
       taken = fed .taken;
+      short = omega (arith, fed .shown .fits, fed .shown .next);
       stored = put .stored;
       left = rw (← put .next, ← kept) (c .make-room .ensures .0);
       room = omega (arith, kept, c .make-room .ensures .1);

@@ -1,14 +1,16 @@
 -- `lotstream::log_piece` meets its contract.
-use Prim.Native.Nat.{_+_, _-_, _≤_}
-use mathlib.Core.Path.{_≡_, refl, sym, _∙_}
+use Prim.Native.Nat.{ℕ, _+_, _-_, _≤_}
+use native.Mathlib.Nat.{sub-zero}
+use mathlib.Core.Path.{_≡_, refl, sym, ap, _∙_}
 use native.Mathlib.Omega.{arith}
 use borrow.Author.Needs.{needs}
 use borrow.Rule.Slice.PartAt.{part-to-end}
-use lib.ListN.{length, drop}
+use lib.ListN.{length, take, drop}
 use Rattle.rules.specs.History.{ours}
 use Rattle.lotlines.specs.Paper.{paperHeld}
-use Rattle.lotstream.specs.Turns.{afterBytes}
+use Rattle.lotstream.specs.Turns.{afterBytes, waitsIn}
 use Rattle.lotstream.proofs.Room.{after-line, after-all}
+use Rattle.lotstream.proofs.Waiting.{turn-waits, waits-line, waits-all}
 use Rattle.lotstream.proofs.log_piece.Statement.{statement}
 use Rattle.lotstream.proofs.log_piece.Tie as tie
 
@@ -18,12 +20,22 @@ Inv-loop piece output₀ waiting held₀ left₀ at₀ output held left at =
     × (left + 50 ≤ length output)
     × (length output ≡ length output₀)
     × (afterBytes ours (paperHeld held) (drop at piece) ≡ afterBytes ours (paperHeld held₀) piece)
+    × (waitsIn ours (length output₀) (length piece - at) (paperHeld held) (take left output) (drop at piece)
+    ≡ waitsIn ours (length output₀) (length piece) (paperHeld held₀) (take left₀ output₀) piece)
 
 abbrev μ-loop : tie.MeasureT-loop
 μ-loop piece output₀ waiting held₀ left₀ at₀ output held left at = length piece - at
 
 loop-holds : tie.Need-loop-holds Inv-loop μ-loop
-loop-holds c = (omega arith, omega (arith, c .before .before .pre), refl, refl)
+loop-holds c =
+    let a = c .before .before .args in (
+      omega arith,
+      omega (arith, c .before .before .pre),
+      refl,
+      refl,
+      ap (λ (n : ℕ). waitsIn ours (length (a .output .now)) n (paperHeld (a .state)) (take (a .waiting) (a .output .now))
+          (a .piece .now)) (sub-zero (length (a .piece .now))),
+    )
 
 sub-log-line : tie.Need-sub-log-line Inv-loop μ-loop
 sub-log-line c = omega arith
@@ -56,6 +68,16 @@ loop-again c =
           (line .ensures .held)
           (line .ensures .taken)
           ∙ loop .inv .3,
+      waits-line ours _ (omega (arith, loop .inv .1, loop .inv .2)) (paperHeld (loop .held)) _ piece _ _ _ (loop .at) _
+          (search needs)
+          (part-to-end piece (loop .at))
+          (line .ensures .held)
+          (line .ensures .taken)
+          (turn-waits _ _ _ _ (loop .left) _ (loop .inv .2) (loop .inv .1)
+          (line .ensures .short)
+          (line .ensures .stored)
+          (line .ensures .left))
+          ∙ loop .inv .4,
     )
 
 same-length : tie.Need-same-length Inv-loop μ-loop
@@ -64,9 +86,15 @@ same-length c = search needs
 returns : tie.Need-returns Inv-loop μ-loop
 returns c =
     let loop = c .before .loop in
+    let piece = c .before .before .before .before .args .piece .now in
     record {
       held = sym (after-all ours _ _ (loop .at) (search needs)) ∙ loop .inv .3;
       taken = search needs;
+      waits =
+          sym
+          (waits-all ours _ (paperHeld (loop .held)) piece (take (loop .left) (loop .output)) (drop (loop .at) piece)
+          (loop .at) (search needs))
+          ∙ loop .inv .4;
       room = search needs;
     }
 
