@@ -1,6 +1,7 @@
 /*
  * Times the proved side and plain C on the same input, alternately, and prints a table of medians. Usage:
- *   bench time ROUNDS judged|emulated PROVED PLAIN LINES TENTH OUT   two programs lotlog, their two inputs, an output
+ *   bench time ROUNDS judged|emulated PROVED PLAIN LINES TENTH OUT   two programs lotlog, their two inputs, an output;
+ *                              from 5 to 1,000 rounds
  *   bench name WORK            the work's name, and the size at which it is counted
  *   bench count WORK SIDE      the work once by one side (0 proved, 1 plain C), or only made ready (2)
  *   bench lines N              N lines for lotlog
@@ -18,7 +19,8 @@
 #include <time.h>
 #include <unistd.h>
 
-enum { MOST_ROUNDS = 1001 };
+/* Rounds are taken in blocks of both sizes by turns, so that a machine that slows down slows both. */
+enum { MOST_ROUNDS = 1000, BLOCKS = 5, FULL = 0, TENTH, SIZES };
 
 static const double most_ratio = 1.2, sample_ns = 2e6;
 
@@ -60,19 +62,29 @@ static unsigned runs_for(const struct work *work) {
     return runs;
 }
 
-static void time_work(const struct work *work, size_t size, double medians[SIDES]) {
-    static double times[SIDES][MOST_ROUNDS];
+static void make_ready(const struct work *work, size_t size) {
     work->prepare(size);
     if (work->run(&sides[PROVED]) != work->run(&sides[PLAIN])) {
         fprintf(stderr, "bench: the two sides answer differently: %s\n", work->name);
         exit(1);
     }
-    unsigned runs = runs_for(work);
-    for (unsigned round = 0; round < rounds; round++)
+}
+
+static void time_work(const struct work *work, double medians[SIZES][SIDES]) {
+    static double times[SIZES][SIDES][MOST_ROUNDS];
+    unsigned runs[SIZES] = {0};
+    for (unsigned block = 0; block < BLOCKS; block++)
+        for (unsigned size = 0; size < SIZES; size++) {
+            make_ready(work, size == FULL ? work->full : work->full / 10);
+            if (block == 0)
+                runs[size] = runs_for(work);
+            for (unsigned round = block * rounds / BLOCKS; round < (block + 1) * rounds / BLOCKS; round++)
+                for (unsigned side = 0; side < SIDES; side++)
+                    times[size][side][round] = time_runs(work, side, runs[size]);
+        }
+    for (unsigned size = 0; size < SIZES; size++)
         for (unsigned side = 0; side < SIDES; side++)
-            times[side][round] = time_runs(work, side, runs);
-    for (unsigned side = 0; side < SIDES; side++)
-        medians[side] = median(times[side]);
+            medians[size][side] = median(times[size][side]);
 }
 
 /* ---- the two programs */
@@ -101,13 +113,15 @@ static double time_program(const char *program, const char *input) {
            1e3 * (double)(used.ru_utime.tv_usec + used.ru_stime.tv_usec);
 }
 
-static void time_programs(char *const programs[SIDES], const char *input, double medians[SIDES]) {
-    static double times[SIDES][MOST_ROUNDS];
+static void time_programs(char *const programs[SIDES], char *const inputs[SIZES], double medians[SIZES][SIDES]) {
+    static double times[SIZES][SIDES][MOST_ROUNDS];
     for (unsigned round = 0; round < rounds; round++)
+        for (unsigned size = 0; size < SIZES; size++)
+            for (unsigned side = 0; side < SIDES; side++)
+                times[size][side][round] = time_program(programs[side], inputs[size]);
+    for (unsigned size = 0; size < SIZES; size++)
         for (unsigned side = 0; side < SIDES; side++)
-            times[side][round] = time_program(programs[side], input);
-    for (unsigned side = 0; side < SIDES; side++)
-        medians[side] = median(times[side]);
+            medians[size][side] = median(times[size][side]);
 }
 
 /* ---- the table */
@@ -130,7 +144,8 @@ static void print_name(const char *name, size_t size, const char *unit) {
         printf("%s | %zu,%03zu,%03zu %s", name, size / 1000000, size / 1000 % 1000, size % 1000, unit);
 }
 
-static void print_row(const double full[SIDES], const double tenth[SIDES], double most_ns, bool judged) {
+static void print_row(double medians[SIZES][SIDES], double most_ns, bool judged) {
+    const double *full = medians[FULL], *tenth = medians[TENTH];
     double ratio = full[PROVED] / full[PLAIN], growth = full[PROVED] / tenth[PROVED];
     bool met = ratio <= most_ratio && growth <= 10 * most_ratio && (most_ns == 0 || full[PROVED] < most_ns);
     printf(" | ");
@@ -143,27 +158,25 @@ static void print_row(const double full[SIDES], const double tenth[SIDES], doubl
     fflush(stdout);
 }
 
-static void print_table(bool judged, char *const programs[SIDES], char *const inputs[2]) {
-    double full[SIDES], tenth[SIDES];
+static void print_table(bool judged, char *const programs[SIDES], char *const inputs[SIZES]) {
+    double medians[SIZES][SIDES];
     puts("| work | size | proved | plain C | ratio | proved × 10 | plain C × 10 | goal |");
     puts("|---|---|---|---|---|---|---|---|");
     for (unsigned i = 0; i < WORKS; i++) {
-        time_work(&works[i], works[i].full, full);
-        time_work(&works[i], works[i].full / 10, tenth);
+        time_work(&works[i], medians);
         printf("| ");
         print_name(works[i].name, works[i].full, works[i].unit);
-        print_row(full, tenth, works[i].most_ns, judged);
+        print_row(medians, works[i].most_ns, judged);
     }
-    time_programs(programs, inputs[0], full);
-    time_programs(programs, inputs[1], tenth);
+    time_programs(programs, inputs, medians);
     printf("| lotlog | 100,000 lines");
-    print_row(full, tenth, 0, judged);
+    print_row(medians, 0, judged);
 }
 
 int main(int argc, char **argv) {
     const char *what = argc > 2 ? argv[1] : "";
     unsigned long number = argc > 2 ? strtoul(argv[2], NULL, 10) : 0;
-    if (strcmp(what, "time") == 0 && argc == 9 && number > 0 && number <= MOST_ROUNDS) {
+    if (strcmp(what, "time") == 0 && argc == 9 && number >= BLOCKS && number <= MOST_ROUNDS) {
         rounds = (unsigned)number;
         output = argv[8];
         print_table(strcmp(argv[3], "judged") == 0, argv + 4, argv + 6);
