@@ -1,6 +1,7 @@
 -- What waits in the output while the lines of a piece are put behind it.
 -- Assumes nothing.
 use Prim.Native.Nat.{ℕ, zero, suc, _+_, _-_, _≤_, _<_}
+use native.Mathlib.Nat.{sub-zero}
 use native.Mathlib.Omega.{arith}
 use mathlib.Core.Path.{_≡_, refl, ap, sym, _∙_}
 use mathlib.Core.Bool.{Bool, true, false, cond}
@@ -95,7 +96,12 @@ module _ (w : Work) (room : ℕ) (enough : 50 ≤ room) where
       rw (rest, ← drop-drop taken at piece, ← e, k, x, n)
       (one-call (length piece - at) s waits part (omega (arith, long)) (omega arith))
 
--- at the piece's end
+-- at the piece's start ..
+pub waits-first : (w : Work) (room : ℕ) (s : Held) (waits p : List ℕ)
+    → waitsIn w room (length p - 0) s waits p ≡ waitsIn w room (length p) s waits p
+waits-first w room s waits p = ap (λ (n : ℕ). waitsIn w room n s waits p) (sub-zero (length p))
+
+-- .. and at its end
 pub waits-all : (w : Work) (room : ℕ) (s : Held) (piece waits p : List ℕ) (at : ℕ) → length piece ≤ at
     → waitsIn w room (length piece - at) s waits p ≡ waits
 unfolding waitsIn

@@ -1,7 +1,6 @@
 -- `lotstream::log_piece` meets its contract.
-use Prim.Native.Nat.{ℕ, _+_, _-_, _≤_}
-use native.Mathlib.Nat.{sub-zero}
-use mathlib.Core.Path.{_≡_, refl, sym, ap, _∙_}
+use Prim.Native.Nat.{_+_, _-_, _≤_}
+use mathlib.Core.Path.{_≡_, refl, sym, _∙_}
 use native.Mathlib.Omega.{arith}
 use borrow.Author.Needs.{needs}
 use borrow.Rule.Slice.PartAt.{part-to-end}
@@ -10,7 +9,7 @@ use Rattle.rules.specs.History.{ours}
 use Rattle.lotlines.specs.Paper.{paperHeld}
 use Rattle.lotstream.specs.Turns.{afterBytes, waitsIn}
 use Rattle.lotstream.proofs.Room.{after-line, after-all}
-use Rattle.lotstream.proofs.Waiting.{turn-waits, waits-line, waits-all}
+use Rattle.lotstream.proofs.Waiting.{waits-first, turn-waits, waits-line, waits-all}
 use Rattle.lotstream.proofs.log_piece.Statement.{statement}
 use Rattle.lotstream.proofs.log_piece.Tie as tie
 
@@ -28,14 +27,8 @@ abbrev μ-loop : tie.MeasureT-loop
 
 loop-holds : tie.Need-loop-holds Inv-loop μ-loop
 loop-holds c =
-    let a = c .before .before .args in (
-      omega arith,
-      omega (arith, c .before .before .pre),
-      refl,
-      refl,
-      ap (λ (n : ℕ). waitsIn ours (length (a .output .now)) n (paperHeld (a .state)) (take (a .waiting) (a .output .now))
-          (a .piece .now)) (sub-zero (length (a .piece .now))),
-    )
+    let first = c .before .before in
+    (omega arith, omega (arith, first .pre), refl, refl, waits-first ours _ _ _ (first .args .piece .now))
 
 sub-log-line : tie.Need-sub-log-line Inv-loop μ-loop
 sub-log-line c = omega arith
