@@ -48,17 +48,11 @@ static unsigned order_event(char letter, int n, const uint32_t *numbers) {
 
 static uint32_t close_total(struct record *r, bool resubmitted, struct lot *lot, uint32_t total,
                             struct single_plan *plan, struct verdict *verdict) {
-    if (lot->size < 2)
-        return 2;
-    if (lot->level > 6)
-        return 3;
-    if (lot->column > 25)
-        return 4;
-    if (lot->severity == STOPPED)
-        return 5;
+    uint32_t status = check_lot(lot);
+    if (status != 0)
+        return status;
     if (lot->severity == REDUCED)
         return 6;
-    lot->letter = ref_letter(lot->size, lot->level);
     find_single(lot, plan);
     if (lot->column <= ITEMS_COLUMN && total > plan->n)
         return 8;

@@ -9,18 +9,16 @@
 uint32_t bench_list(const uint8_t *history, size_t len, uint8_t *out, size_t room);
 uint32_t plain_list(const uint8_t *history, size_t len, uint8_t *out, size_t room);
 
+/* The verdict on a sample, by its plan. */
+typedef uint32_t judge(uint32_t size, uint32_t level, uint32_t column, uint32_t severity, const uint8_t *book,
+                       size_t book_len, const uint8_t *sample, size_t sample_len, uint8_t *accepted, uint16_t *used);
+
 enum { PROVED, PLAIN, SIDES };
 
 struct side {
     uint32_t (*plan)(uint32_t size, uint32_t level, uint32_t column, uint32_t severity, const uint8_t *book,
                      size_t book_len, uint8_t *letter, uint16_t *n, uint16_t *ac);
-    uint32_t (*single)(uint32_t size, uint32_t level, uint32_t column, uint32_t severity, const uint8_t *book,
-                       size_t book_len, const uint8_t *sample, size_t sample_len, uint8_t *accepted, uint16_t *used);
-    uint32_t (*staged)(uint32_t size, uint32_t level, uint32_t column, uint32_t severity, const uint8_t *book,
-                       size_t book_len, const uint8_t *sample, size_t sample_len, uint8_t *accepted, uint16_t *used);
-    uint32_t (*sequential)(uint32_t size, uint32_t level, uint32_t column, uint32_t severity, const uint8_t *book,
-                           size_t book_len, const uint8_t *sample, size_t sample_len, uint8_t *accepted,
-                           uint16_t *used);
+    judge *single, *staged, *sequential;
     uint32_t (*variables)(uint32_t size, uint32_t level, uint32_t column, uint32_t severity, const uint8_t *book,
                           size_t book_len, const uint8_t *readings, size_t readings_len, int32_t limit,
                           uint8_t *accepted, uint16_t *used);

@@ -104,6 +104,14 @@ static uint64_t verdict(uint32_t status, uint8_t accepted, uint16_t used) {
     return status + ((uint64_t)accepted << 62) + ((uint64_t)used << 32);
 }
 
+static uint64_t judged(judge *by) {
+    uint8_t accepted = 0;
+    uint16_t used = 0;
+    uint32_t status =
+        by(lot.size, lot.level, lot.column, lot.severity, book, book_len, sample, sample_len, &accepted, &used);
+    return verdict(status, accepted, used);
+}
+
 /* Tightened R, 0.025 takes 3,150 items; normal M, 0.15 takes 315. */
 static void prepare_single(size_t size) {
     begin(size == 3150 ? (struct lot){500001, LEVEL_III, 2, HM_TIGHTENED}
@@ -114,11 +122,7 @@ static void prepare_single(size_t size) {
 }
 
 static uint64_t run_single(const struct side *side) {
-    uint8_t accepted = 0;
-    uint16_t used = 0;
-    uint32_t status = side->single(lot.size, lot.level, lot.column, lot.severity, book, book_len, sample, sample_len,
-                                   &accepted, &used);
-    return verdict(status, accepted, used);
+    return judged(side->single);
 }
 
 /* Seven stages that accept only at the last. */
@@ -136,11 +140,7 @@ static void prepare_staged(size_t size) {
 }
 
 static uint64_t run_staged(const struct side *side) {
-    uint8_t accepted = 0;
-    uint16_t used = 0;
-    uint32_t status = side->staged(lot.size, lot.level, lot.column, lot.severity, book, book_len, sample, sample_len,
-                                   &accepted, &used);
-    return verdict(status, accepted, used);
+    return judged(side->staged);
 }
 
 /* Lines so far apart that only the last item decides. */
@@ -153,11 +153,7 @@ static void prepare_sequential(size_t size) {
 }
 
 static uint64_t run_sequential(const struct side *side) {
-    uint8_t accepted = 0;
-    uint16_t used = 0;
-    uint32_t status = side->sequential(lot.size, lot.level, lot.column, lot.severity, book, book_len, sample,
-                                       sample_len, &accepted, &used);
-    return verdict(status, accepted, used);
+    return judged(side->sequential);
 }
 
 static void put_readings(size_t n) {

@@ -274,10 +274,7 @@ static uint32_t refuse(unsigned number, size_t place) {
     return number | (uint32_t)place << 8;
 }
 
-static uint32_t open_lot(struct lot *lot, const uint8_t *book, size_t book_len) {
-    size_t fault = open_book(&lot->book, book, book_len);
-    if (fault != SOUND)
-        return refuse(12, fault);
+static uint32_t check_lot(struct lot *lot) {
     if (lot->severity > STOPPED)
         return 1;
     if (lot->size < 2)
@@ -290,6 +287,11 @@ static uint32_t open_lot(struct lot *lot, const uint8_t *book, size_t book_len) 
         return 5;
     lot->letter = ref_letter(lot->size, lot->level);
     return 0;
+}
+
+static uint32_t open_lot(struct lot *lot, const uint8_t *book, size_t book_len) {
+    size_t fault = open_book(&lot->book, book, book_len);
+    return fault != SOUND ? refuse(12, fault) : check_lot(lot);
 }
 
 static size_t find_for_lot(const struct lot *lot, unsigned section) {
