@@ -13,8 +13,7 @@ use lib.ListN.{length, getD}
 use Rattle.rules.specs.Severity.{Lot, addThree, addTwo, scoreZero, notAccepted, Event, resubmitted, corrective}
 use Rattle.rules.specs.Severity.{unknown}
 use Rattle.rules.specs.Reading.{isResubmitted, withoutResubmitted}
-use Rattle.rules.specs.History.{Work, eventOf, eventIn, past, withoutFours}
-use Rattle.rules.specs.Runs.{byteOfLot, byteOf}
+use Rattle.rules.specs.History.{byteOfLot, byteOf, Work, knows, eventOf, eventIn, past, withoutFours}
 use Rattle.rules.proofs.Resubmitted.{by-resubmitted}
 
 -- the byte of a byte's event is that byte; those past 9 have one event
@@ -54,7 +53,7 @@ module _ (w : Work) where
   -- an event but an unknown one comes from its byte alone
   event-byte : (b k : ℕ) → k ≤ 9 → byteOf (eventIn w b) ≡ k → b ≡ k
   unfolding eventIn
-  event-byte b k l h = go (w .knows b) h
+  event-byte b k l h = go (knows w b) h
     where
       go : (d : Bool) → byteOf (cond d (eventOf b) unknown) ≡ k → b ≡ k
       go true h = omega (arith, byte-event b)
@@ -92,7 +91,7 @@ module _ (w : Work) where
   unfolding past
   past-more h b = past-append h (b ∷ [])
 
-  module _ (known : w .knows 4 ≡ true) where
+  module _ (known : knows w 4 ≡ true) where
     four : eventIn w 4 ≡ resubmitted
     unfolding eventIn eventOf
     four = rw known

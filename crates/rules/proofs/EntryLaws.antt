@@ -220,28 +220,29 @@ module _ {P : Type 0} (r : Record) (o : Offered) (judged : Answer (Judged P Verd
       (goes-on judged s
       (λ j e.
       let t = lot-steps r o (counts j) (inspected j e) in
-      (record { judged = j; recordAfter = t .0 }, rw (t .1))))
+      (record { judged = j; event = eventFor o (counts j); recordAfter = t .0 }, rw (t .1))))
 
   -- taken into the record
   pub record Closes (c : Closed P) : Type 0 where
     pub in-range : inRange r ≡ true
     pub as-judged : judged ≡ given (c .judged)
-    pub stepped : step r (eventFor o (counts (c .judged))) ≡ given (c .recordAfter)
+    pub stands : c .event ≡ eventFor o (counts (c .judged))
+    pub stepped : step r (c .event) ≡ given (c .recordAfter)
 
   pub closing-given : (c : Closed P) → (onRecord r (andThen judged (closedWith r o counts)) ≡ given c) ↔ Closes c
-  closing-given c = (so, λ k. rw (ap not (k .in-range), k .as-judged, k .stepped))
+  closing-given c = (so, λ k. rw (ap not (k .in-range), k .as-judged, ← k .stands, k .stepped))
     where
       so : onRecord r (andThen judged (closedWith r o counts)) ≡ given c → Closes c
       so g =
           let h = first-given ((not (inRange r) gives unknownForm) ∷ []) _ c .0 g in
           let j = then-given judged (closedWith r o counts) c (h .1) in
           let t = then-given (step r (eventFor o (counts (j .0)))) _ c (j .2) in
-          let e : record { judged = j .0; recordAfter = t .0 } ≡ c = given-one (t .2) in
+          let e : record { judged = j .0; event = eventFor o (counts (j .0)); recordAfter = t .0 } ≡ c = given-one (t .2) in
           record {
             in-range = not-false (inRange r) (h .0 .0);
             as-judged = j .1 ∙ ap (λ (k : Closed P). given (k .judged)) e;
-            stepped = subst (λ (k : Closed P). step r (eventFor o (counts (k .judged))) ≡ given (k .recordAfter)) e
-                (t .1);
+            stands = subst (λ (k : Closed P). k .event ≡ eventFor o (counts (k .judged))) e refl;
+            stepped = subst (λ (k : Closed P). step r (k .event) ≡ given (k .recordAfter)) e (t .1);
           }
 
   pub closing-on-book : {Wrong : ℕ → Type 0} (book : List ℕ) → OnBook book Wrong judged

@@ -10,7 +10,7 @@ use lib.Dec.{leb, eqb}
 use lib.ListN.{length, getD}
 use borrow.Author.Tests.{leb-true, eqb-true, eqb-false, ne-eqb}
 use borrow.Author.Tests.{not-true}
-use Rattle.rules.specs.History.{Work}
+use Rattle.rules.specs.History.{Work, knows}
 use Rattle.rules.specs.Log.{splitAt, joinFirst, space, isDigit, allDigits, valueFrom, valueOf, largestNumber}
 use Rattle.rules.specs.Log.{isNumber, unknownLine, fieldAt, opens, numbersAfter, yesOrNo, lineOf}
 use Rattle.rules.specs.Feeding.{upTo, longestLine}
@@ -142,9 +142,9 @@ unfolding lineOf
 long-unknown w l h =
     never (opens 76 4 fs && numbersAfter fs) _ _ (λ t. lot 76 (and-left (opens 76 4 fs) (numbersAfter fs) t)
     (and-right (opens 76 4 fs) (numbersAfter fs) t))
-    ∙ never (opens 82 4 fs && (numbersAfter fs && w .knows 4)) _ _ (λ t. lot 82 (and-left (opens 82 4 fs)
-    (numbersAfter fs && w .knows 4) t) (and-left (numbersAfter fs) (w .knows 4) (and-right (opens 82 4 fs)
-    (numbersAfter fs && w .knows 4) t)))
+    ∙ never (opens 82 4 fs && (numbersAfter fs && knows w 4)) _ _ (λ t. lot 82 (and-left (opens 82 4 fs)
+    (numbersAfter fs && knows w 4) t) (and-left (numbersAfter fs) (knows w 4) (and-right (opens 82 4 fs)
+    (numbersAfter fs && knows w 4) t)))
     ∙ never (opens 83 1 fs && yesOrNo (fieldAt fs 1)) _ _ (order 83)
     ∙ never (opens 80 1 fs && yesOrNo (fieldAt fs 1)) _ _ (order 80)
     ∙ never (opens 67 0 fs) _ _ (λ t. wide (corrective-short fs (size 67 0 t) (one 67 0 t)))

@@ -79,7 +79,8 @@ module _ (r : Record) (o : Offered) where
       → o .again ≡ false → Closes r o judged counts c
       → step r (lot sampled (counts (c .judged))) ≡ given (c .recordAfter)
   original-lot judged counts c a k =
-      ap (λ (b : Bool). step r (cond b resubmitted (lot sampled (counts (c .judged))))) (sym a) ∙ k .stepped
+      ap (λ (b : Bool). step r (cond b resubmitted (lot sampled (counts (c .judged))))) (sym a)
+      ∙ (ap (step r) (sym (k .stands)) ∙ k .stepped)
 
 fromFive : Record
 fromFive = onNormal 5 0 false false

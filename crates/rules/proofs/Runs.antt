@@ -14,7 +14,7 @@ use Rattle.rules.specs.Verdict.{Verdict, Judged}
 use Rattle.rules.specs.Severity.{sampled, Lot, addThree, addTwo, scoreZero, notAccepted, Event, lot}
 use Rattle.rules.specs.Severity.{resubmitted, steadyIs, permissionIs, corrective, unknown, Record, fresh, step}
 use Rattle.rules.specs.Severity.{inRange}
-use Rattle.rules.specs.History.{Work, eventOf, eventIn, placed, afterFrom, after}
+use Rattle.rules.specs.History.{Work, eventOf, eventIn, byteOf, placed, afterFrom, after}
 use Rattle.rules.specs.Book.{Checked, sound, brokenAt, checkBook, onSound}
 use Rattle.rules.specs.Entries.{Asked, Closed, Offered, askedOn, eventFor, singleCounts, stagedCounts}
 use Rattle.rules.specs.Entries.{closedWith, onRecord}
@@ -23,7 +23,7 @@ use Rattle.rules.specs.Entries.{next}
 use Rattle.rules.specs.Runs.{Call, single, staged, total, byte, sequential, variables, Entered, enters}
 use Rattle.rules.specs.Runs.{nothing, enteredBy, enteredAs, entered, isResubmission, withoutResubmissions}
 use Rattle.rules.specs.Runs.{recordBy, eventsBy, ran}
-use Rattle.rules.specs.Runs.{eventsRan, byteOf, bytesRan}
+use Rattle.rules.specs.Runs.{eventsRan, bytesRan}
 use Rattle.rules.proofs.Append.{and-one-event}
 use Rattle.rules.proofs.Range.{step-range}
 use Rattle.rules.proofs.Resubmitted.{is-resubmitted, resubmitted-step}
@@ -40,11 +40,9 @@ pub record Records {A : Type 0} (w : Work) (cs : List Call) (call : Call) (answe
       → (ran w (call ∷ cs) ≡ after a) × (eventsRan w (call ∷ cs) ≡ event a ∷ eventsRan w cs)
   pub dropped : (n k : ℕ) → answer ≡ refused n k → Idle w cs call
 
--- A lot closed is recorded as it counts.
-abbrev pub ClosesLot : {P : Type 0} → Work → List Call → Call → Answer (Closed P) → Offered → (Judged P Verdict → Lot)
-    → Type 0
-ClosesLot w cs call answer o counts =
-    Records w cs call answer (λ c. c .recordAfter) (λ c. eventFor o (counts (c .judged)))
+-- A lot closed is recorded as the event that it tells.
+abbrev pub ClosesLot : {P : Type 0} → Work → List Call → Call → Answer (Closed P) → Type 0
+ClosesLot w cs call answer = Records w cs call answer (λ c. c .recordAfter) (λ c. c .event)
 
 module _ (w : Work) (cs : List Call) where
   call-idle : (call : Call) → entered w (ran w cs) call ≡ nothing → Idle w cs call
@@ -56,27 +54,27 @@ module _ (w : Work) (cs : List Call) where
   unfolding ran eventsRan
   call-entered call e t q = rw q (refl, refl)
 
-  call-closes : {P : Type 0} (call : Call) (answer : Answer (Closed P)) (o : Offered) (counts : Judged P Verdict → Lot)
-      → entered w (ran w cs) call ≡ enteredBy o counts answer → ClosesLot w cs call answer o counts
-  call-closes call answer o counts q = record {
-    recorded = λ c e. call-entered call _ (c .recordAfter) (q ∙ ap (enteredBy o counts) e);
-    dropped = λ n k e. call-idle call (q ∙ ap (enteredBy o counts) e);
+  call-closes : {P : Type 0} (call : Call) (answer : Answer (Closed P)) → entered w (ran w cs) call ≡ enteredBy answer
+      → ClosesLot w cs call answer
+  call-closes call answer q = record {
+    recorded = λ c e. call-entered call (c .event) (c .recordAfter) (q ∙ ap enteredBy e);
+    dropped = λ n k e. call-idle call (q ∙ ap enteredBy e);
   }
 
   pub single-closes : (o : Offered) (book sample : List ℕ)
-      → ClosesLot w cs (single o book sample) (closeSingle (ran w cs) o book sample) o (singleCounts (ran w cs) o)
+      → ClosesLot w cs (single o book sample) (closeSingle (ran w cs) o book sample)
   unfolding entered
-  single-closes o book sample = call-closes (single o book sample) _ o (singleCounts (ran w cs) o) refl
+  single-closes o book sample = call-closes (single o book sample) _ refl
 
   pub staged-closes : (o : Offered) (book sample : List ℕ)
-      → ClosesLot w cs (staged o book sample) (closeStaged (ran w cs) o book sample) o (stagedCounts (ran w cs) o)
+      → ClosesLot w cs (staged o book sample) (closeStaged (ran w cs) o book sample)
   unfolding entered
-  staged-closes o book sample = call-closes (staged o book sample) _ o (stagedCounts (ran w cs) o) refl
+  staged-closes o book sample = call-closes (staged o book sample) _ refl
 
   pub total-closes : (o : Offered) (d : ℕ)
-      → ClosesLot w cs (total o d) (closeTotal (ran w cs) o d) o (singleCounts (ran w cs) o)
+      → ClosesLot w cs (total o d) (closeTotal (ran w cs) o d)
   unfolding entered
-  total-closes o d = call-closes (total o d) _ o (singleCounts (ran w cs) o) refl
+  total-closes o d = call-closes (total o d) _ refl
 
   pub byte-records : (b : ℕ) → Records w cs (byte b) (next w (ran w cs) b) (λ t. t) (λ t. eventIn w b)
   unfolding entered
@@ -112,22 +110,22 @@ module _ (P : Event → Type 0) (r : Record) where
 
   module _ {Q : Type 0} (o : Offered) (counts : Judged Q Verdict → Lot) (p : (l : Lot) → P (eventFor o l)) where
     judged-enters : (j : Answer (Judged Q Verdict))
-        → Enters P r (enteredBy o counts (onRecord r (andThen j (closedWith r o counts))))
+        → Enters P r (enteredBy (onRecord r (andThen j (closedWith r o counts))))
     judged-enters a = go (inRange r) a
       where
         with-step : (j : Judged Q Verdict) (a : Answer Record) → step r (eventFor o (counts j)) ≡ a
-            → Enters P r (enteredBy o counts (andThen a (λ t. given (record { judged = j; recordAfter = t }))))
+            → Enters P r (enteredBy (andThen a (λ t. given (record { judged = j; event = eventFor o (counts j); recordAfter = t }))))
         with-step j (refused n k) q = tt
         with-step j (given t) q = (q, p (counts j))
 
         go : (d : Bool) (a : Answer (Judged Q Verdict))
-            → Enters P r (enteredBy o counts (cond (not d) (refused unknownForm 0) (andThen a (closedWith r o counts))))
+            → Enters P r (enteredBy (cond (not d) (refused unknownForm 0) (andThen a (closedWith r o counts))))
         go true (refused n k) = tt
         go true (given j) = with-step j (step r (eventFor o (counts j))) refl
         go false a = tt
 
     sound-enters : (k : Checked) (j : Answer (Judged Q Verdict))
-        → Enters P r (enteredBy o counts (onSound k (onRecord r (andThen j (closedWith r o counts)))))
+        → Enters P r (enteredBy (onSound k (onRecord r (andThen j (closedWith r o counts)))))
     sound-enters sound j = judged-enters j
     sound-enters (brokenAt b) j = tt
 

@@ -170,9 +170,10 @@ onRecord r answer = firstOf ((not (inRange r) gives unknownForm) ∷ []) answer
 unfoldable pub next : Work → Record → ℕ → Answer Record
 next w r byte = onRecord r (step r (eventIn w byte))
 
--- A lot that was closed: how it was judged, and the next record.
+-- A lot that was closed: how it was judged, the event that it stands for, and the next record.
 pub record Closed (Plan : Type 0) : Type 0 where
   pub judged : Judged Plan Verdict
+  pub event : Event
   pub recordAfter : Record
 
 -- A lot that is offered to be closed: "Resubmitted lots are judged at the present severity and change nothing."
@@ -200,7 +201,9 @@ stagedCounts r o j =
 
 abbrev pub closedWith : {P : Type 0}
     → Record → Offered → (Judged P Verdict → Lot) → Judged P Verdict → Answer (Closed P)
-closedWith r o counts j = andThen (step r (eventFor o (counts j))) (λ t. given (record { judged = j; recordAfter = t }))
+closedWith r o counts j =
+    andThen (step r (eventFor o (counts j)))
+    (λ t. given (record { judged = j; event = eventFor o (counts j); recordAfter = t }))
 
 -- close_single, close_staged: "12 first", then a record out of range, then as the lot is judged at the present severity
 unfoldable pub closeSingle : Record → Offered → List ℕ → List ℕ → Answer (Closed Plan)

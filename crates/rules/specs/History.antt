@@ -1,12 +1,12 @@
 -- Document 01, 'Severity record', a history of bytes: the list of its severities, and its refusals. Definitions only.
 use Prim.Native.Nat.{ℕ, zero, suc}
-use mathlib.Core.Bool.{Bool, true, false, cond}
+use mathlib.Core.Bool.{Bool, true, false, cond, _&&_, _||_, not}
 use mathlib.Core.List.{List, [], _∷_}
 use lib.Dec.{leb, ltb, eqb}
 use lib.ListN.{length, getD, set}
 use Rattle.rules.specs.Refusals.{Answer, refused, given, firstOf, _gives_, andThen, bufferShort}
-use Rattle.rules.specs.Severity.{addThree, addTwo, scoreZero, notAccepted, typed, Event, lot, resubmitted}
-use Rattle.rules.specs.Severity.{steadyIs, permissionIs, corrective, unknown, Record, fresh, step}
+use Rattle.rules.specs.Severity.{Lot, addThree, addTwo, scoreZero, notAccepted, typed, Event, lot}
+use Rattle.rules.specs.Severity.{resubmitted, steadyIs, permissionIs, corrective, unknown, Record, fresh, step}
 use Rattle.rules.specs.Reading.{severityRead}
 
 -- "0, 1, 2 accepted (add 3, add 2, score 0), 3 not accepted, 4 resubmitted, 5 steady, 6 not steady, 7 permission, 8
@@ -28,18 +28,37 @@ byteEvents =
 unfoldable pub eventOf : ℕ → Event
 eventOf byte = getD byteEvents byte unknown
 
--- The work that a history belongs to: the permission that its start names, and the bytes and line forms that it knows
--- (a line's form is known by its byte).
+-- the history byte of an event
+abbrev pub byteOfLot : Lot → ℕ
+byteOfLot addThree = 0
+byteOfLot addTwo = 1
+byteOfLot scoreZero = 2
+byteOfLot notAccepted = 3
+
+abbrev pub byteOf : Event → ℕ
+byteOf (lot o l) = byteOfLot l
+byteOf resubmitted = 4
+byteOf (steadyIs b) = cond b 5 6
+byteOf (permissionIs b) = cond b 7 8
+byteOf corrective = 9
+byteOf unknown = 10
+
+-- The work that a history belongs to: the permission that its start names, and whether it knows resubmitted lots (byte
+-- 4, R lines).
 pub record Work : Type 0 where
   pub permission : Bool
-  pub knows : ℕ → Bool
+  pub resubmission : Bool
+
+-- the bytes and line forms that a work knows (a line's form is known by its byte)
+abbrev pub knows : Work → ℕ → Bool
+knows w byte = leb byte 9 && (not (eqb byte 4) || w .resubmission)
 
 -- "Starts: .. permission no"; every byte of the list is known
 abbrev pub ours : Work
-ours = record { permission = false; knows = λ byte. leb byte 9 }
+ours = record { permission = false; resubmission = true }
 
 unfoldable pub eventIn : Work → ℕ → Event
-eventIn w byte = cond (w .knows byte) (eventOf byte) unknown
+eventIn w byte = cond (knows w byte) (eventOf byte) unknown
 
 -- a refusal of what stands at a place
 abbrev pub placed : {A : Type 0} → ℕ → Answer A → Answer A

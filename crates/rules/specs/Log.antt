@@ -8,7 +8,7 @@ use Rattle.rules.specs.Refusals.{Answer, refused, given, unknownForm}
 use Rattle.rules.specs.Ascii.{ascii}
 use Rattle.rules.specs.Single.{Plan}
 use Rattle.rules.specs.Severity.{Record, fresh}
-use Rattle.rules.specs.History.{Work}
+use Rattle.rules.specs.History.{Work, knows}
 use Rattle.rules.specs.Entries.{Offered, Closed, closeTotal, next}
 
 -- the bytes of a stretch between separators, one stretch more than there are separators
@@ -104,7 +104,7 @@ orderIn onYes onNo fields = orderLine (cond (eqb (valueOf (fieldAt fields 1)) 1)
 unfoldable pub lineOf : Work → List (List ℕ) → Line
 lineOf w fields =
     cond (opens 76 4 fields && numbersAfter fields) (lotIn false fields)
-    (cond (opens 82 4 fields && (numbersAfter fields && w .knows 4)) (lotIn true fields)
+    (cond (opens 82 4 fields && (numbersAfter fields && knows w 4)) (lotIn true fields)
     (cond (opens 83 1 fields && yesOrNo (fieldAt fields 1)) (orderIn 5 6 fields)
     (cond (opens 80 1 fields && yesOrNo (fieldAt fields 1)) (orderIn 7 8 fields)
     (cond (opens 67 0 fields) (orderLine 9) unknownLine))))

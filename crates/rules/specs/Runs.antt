@@ -5,13 +5,10 @@ use mathlib.Core.Bool.{Bool, false, cond}
 use mathlib.Core.List.{List, [], _∷_, map}
 use lib.IntN.{ℤ}
 use Rattle.rules.specs.Refusals.{Answer, refused, given}
-use Rattle.rules.specs.Verdict.{Verdict, Judged}
-use Rattle.rules.specs.Severity.{Lot, addThree, addTwo, scoreZero, notAccepted, Event, lot, resubmitted}
-use Rattle.rules.specs.Severity.{steadyIs, permissionIs, corrective, unknown, Record, fresh}
+use Rattle.rules.specs.Severity.{Event, Record, fresh}
 use Rattle.rules.specs.Reading.{isResubmitted}
-use Rattle.rules.specs.History.{Work, eventIn}
-use Rattle.rules.specs.Entries.{Asked, Offered, Closed, eventFor, singleCounts, stagedCounts, closeSingle}
-use Rattle.rules.specs.Entries.{closeStaged, closeTotal, next}
+use Rattle.rules.specs.History.{Work, eventIn, byteOf}
+use Rattle.rules.specs.Entries.{Asked, Offered, Closed, closeSingle, closeStaged, closeTotal, next}
 
 -- A call: a lot closed from its sample, or by its total; a history byte, which is an order or a lot; a sequential or
 -- variables verdict in between.
@@ -28,9 +25,9 @@ pub data Entered : Type 0 where
   enters : Event → Record → Entered
   nothing : Entered
 
-abbrev pub enteredBy : {P : Type 0} → Offered → (Judged P Verdict → Lot) → Answer (Closed P) → Entered
-enteredBy o counts (refused n p) = nothing
-enteredBy o counts (given c) = enters (eventFor o (counts (c .judged))) (c .recordAfter)
+abbrev pub enteredBy : {P : Type 0} → Answer (Closed P) → Entered
+enteredBy (refused n p) = nothing
+enteredBy (given c) = enters (c .event) (c .recordAfter)
 
 abbrev pub enteredAs : Event → Answer Record → Entered
 enteredAs e (refused n p) = nothing
@@ -38,9 +35,9 @@ enteredAs e (given r) = enters e r
 
 -- "Sequential and variables verdicts don't enter the record"
 unfoldable pub entered : Work → Record → Call → Entered
-entered w r (single o book sample) = enteredBy o (singleCounts r o) (closeSingle r o book sample)
-entered w r (staged o book sample) = enteredBy o (stagedCounts r o) (closeStaged r o book sample)
-entered w r (total o d) = enteredBy o (singleCounts r o) (closeTotal r o d)
+entered w r (single o book sample) = enteredBy (closeSingle r o book sample)
+entered w r (staged o book sample) = enteredBy (closeStaged r o book sample)
+entered w r (total o d) = enteredBy (closeTotal r o d)
 entered w r (byte b) = enteredAs (eventIn w b) (next w r b)
 entered w r (sequential q book sample) = nothing
 entered w r (variables upper q book limit readings) = nothing
@@ -76,21 +73,6 @@ ran w (c ∷ cs) = recordBy (ran w cs) (entered w (ran w cs) c)
 unfoldable pub eventsRan : Work → List Call → List Event
 eventsRan w [] = []
 eventsRan w (c ∷ cs) = eventsBy (eventsRan w cs) (entered w (ran w cs) c)
-
--- the history byte of an event
-abbrev pub byteOfLot : Lot → ℕ
-byteOfLot addThree = 0
-byteOfLot addTwo = 1
-byteOfLot scoreZero = 2
-byteOfLot notAccepted = 3
-
-abbrev pub byteOf : Event → ℕ
-byteOf (lot o l) = byteOfLot l
-byteOf resubmitted = 4
-byteOf (steadyIs b) = cond b 5 6
-byteOf (permissionIs b) = cond b 7 8
-byteOf corrective = 9
-byteOf unknown = 10
 
 -- the bytes that the calls of a run stand for
 abbrev pub bytesRan : Work → List Call → List ℕ

@@ -15,8 +15,8 @@ use Rattle.rules.specs.Codes.{tightened, reduced, stopped}
 use Rattle.rules.specs.Severity.{Event, resubmitted, corrective, Record, fresh, step, inRange}
 use Rattle.rules.specs.Reading.{stayAfter, severityRead, recordRead, staysIn, isResubmitted}
 use Rattle.rules.specs.Reading.{withoutResubmitted, severitiesAt}
-use Rattle.rules.specs.History.{Work, eventOf, eventIn, afterFrom, after, past, afterHistory, withoutFours}
-use Rattle.rules.specs.Entries.{Asked, Offered, singleCounts, stagedCounts, closeSingle, closeStaged}
+use Rattle.rules.specs.History.{Work, knows, eventOf, eventIn, afterFrom, after, past, afterHistory, withoutFours}
+use Rattle.rules.specs.Entries.{Asked, Offered, closeSingle, closeStaged}
 use Rattle.rules.specs.Entries.{closeTotal, next}
 use Rattle.rules.specs.Runs.{Call, single, staged, total, byte, sequential, variables, entered}
 use Rattle.rules.specs.Runs.{isResubmission, withoutResubmissions, recordBy, ran, eventsRan, bytesRan}
@@ -49,15 +49,15 @@ bytes-record w h r q =
 -- verdict, nothing.
 module _ (w : Work) (cs : List Call) where
   pub run-closes-single : (o : Offered) (book sample : List ℕ)
-      → ClosesLot w cs (single o book sample) (closeSingle (ran w cs) o book sample) o (singleCounts (ran w cs) o)
+      → ClosesLot w cs (single o book sample) (closeSingle (ran w cs) o book sample)
   run-closes-single o book sample = single-closes w cs o book sample
 
   pub run-closes-staged : (o : Offered) (book sample : List ℕ)
-      → ClosesLot w cs (staged o book sample) (closeStaged (ran w cs) o book sample) o (stagedCounts (ran w cs) o)
+      → ClosesLot w cs (staged o book sample) (closeStaged (ran w cs) o book sample)
   run-closes-staged o book sample = staged-closes w cs o book sample
 
   pub run-closes-total : (o : Offered) (d : ℕ)
-      → ClosesLot w cs (total o d) (closeTotal (ran w cs) o d) o (singleCounts (ran w cs) o)
+      → ClosesLot w cs (total o d) (closeTotal (ran w cs) o d)
   run-closes-total o d = total-closes w cs o d
 
   pub run-takes-byte : (b : ℕ) → Records w cs (byte b) (next w (ran w cs) b) (λ t. t) (λ t. eventIn w b)
@@ -174,7 +174,7 @@ pub history-without : (start : Bool) (es : List Event) (r : Record) → after st
 history-without start es r q = (without-resubmitted (fresh start) r es q, left-severities start es)
 
 -- of bytes, where the work knows byte 4
-pub bytes-without : (w : Work) (h : List ℕ) (r : Record) → w .knows 4 ≡ true → afterHistory w h ≡ given r
+pub bytes-without : (w : Work) (h : List ℕ) (r : Record) → knows w 4 ≡ true → afterHistory w h ≡ given r
     → (afterHistory w (withoutFours h) ≡ given r)
     × (severitiesAt (λ e. true) (w .permission) (past w (withoutFours h) (length (withoutFours h)))
     ≡ severitiesAt (λ e. not (isResubmitted e)) (w .permission) (past w h (length h)))
@@ -198,7 +198,7 @@ pub history-put-in : (start : Bool) (later es : List Event) (r : Record) → (se
     × (severityRead start (later ++ (resubmitted ∷ es)) ≡ severityRead start (later ++ es))
 history-put-in start later es r n q = (resubmitted-in start r later es n q, resubmitted-reads start later es)
 
-pub bytes-put-in : (w : Work) (earlier later : List ℕ) (r : Record) → w .knows 4 ≡ true
+pub bytes-put-in : (w : Work) (earlier later : List ℕ) (r : Record) → knows w 4 ≡ true
     → (severityRead (w .permission) (past w earlier (length earlier)) ≡ stopped → ⊥)
     → afterHistory w (earlier ++ later) ≡ given r
     → (afterHistory w (earlier ++ (4 ∷ later)) ≡ given r)
