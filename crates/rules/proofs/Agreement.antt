@@ -123,16 +123,19 @@ permission-of zero ls st pe = refl
 permission-of (suc zero) ls st pe = refl
 permission-of (suc (suc s)) ls st pe = refl
 
-corrective-read : (s : ℕ) (ls : List Lot) (st pe : Bool) (r : Record) → r .steady ≡ st → r .permission ≡ pe
-    → Gives (onCorrective s r) (recordOf st pe (readCorrective s ls))
-unfolding onCorrective
-corrective-read s ls st pe r h k = rw (h, k) (go (leb stopped s))
-  where
-    go : (d : Bool)
-        → Gives (cond d (given (started tightened st pe)) (refused notStopped 0))
-        (recordOf st pe (cond d (stayOf tightened []) (stayOf s ls)))
-    go true = starts tightened st pe
-    go false = tt
+corrected : (d : Bool) (st pe : Bool) (y : Stay)
+    → Gives (cond d (given (started tightened st pe)) (refused notStopped 0))
+    (recordOf st pe (cond d (stayOf tightened []) y))
+corrected true st pe y = starts tightened st pe
+corrected false st pe y = tt
+
+corrective-read : (s : ℕ) (ls : List Lot) (st pe : Bool)
+    → Gives (onCorrective s (figuresOf s ls st pe))
+    (recordOf (steadyBy corrective st) (permissionBy corrective pe) (readCorrective s ls))
+unfolding onCorrective figuresOf
+corrective-read zero ls st pe = tt
+corrective-read (suc zero) ls st pe = tt
+corrective-read (suc (suc s)) ls st pe = corrected (leb stopped (suc (suc s))) _ _ (stayOf (suc (suc s)) ls)
 
 -- one event
 event-read : (e : Event) (st pe : Bool) (y : Stay)
@@ -149,9 +152,7 @@ event-read (permissionIs b) st pe y =
     (order-read (y .severity) b (y .lots) st pe st b)
 event-read corrective st pe y =
     rw (severity-of (y .severity) (y .lots) st pe)
-    (corrective-read (y .severity) (y .lots) st pe (recordOf st pe y)
-    (steady-of (y .severity) (y .lots) st pe)
-    (permission-of (y .severity) (y .lots) st pe))
+    (corrective-read (y .severity) (y .lots) st pe)
 event-read unknown st pe y = tt
 
 -- The record after a history that is not refused is the one that the written reading finds.

@@ -23,6 +23,7 @@ pub mod Landing
 pub mod LineForms
 pub mod LookUp
 pub mod Numbers
+pub mod Orders
 pub mod Parts
 pub mod Points
 pub mod PrintedTables

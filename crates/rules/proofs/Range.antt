@@ -296,12 +296,11 @@ order-range (suc (suc (suc s))) stands st pe r f = started-range stopped st pe (
 
 corrective-range : (s : ℕ) (r : Record) → GivesInRange (onCorrective s r)
 unfolding onCorrective
-corrective-range s r = go (leb stopped s)
+corrective-range s r = go (leb stopped s) _ (started-range tightened _ (r .permission) (omega arith))
   where
-    go : (d : Bool)
-        → GivesInRange (cond d (given (started tightened (r .steady) (r .permission))) (refused notStopped 0))
-    go true = started-range tightened (r .steady) (r .permission) (omega arith)
-    go false = tt
+    go : (d : Bool) (t : Record) → inRange t ≡ true → GivesInRange (cond d (given t) (refused notStopped 0))
+    go true t h = h
+    go false t h = tt
 
 event-range : (r : Record) (e : Event) → inRange r ≡ true → GivesInRange (step r e)
 unfolding step

@@ -10,6 +10,7 @@ pub mod Screen
 pub mod Severity
 pub mod Reading
 pub mod History
+pub mod Switching
 pub mod Book
 pub mod Layout
 pub mod Faults
