@@ -3,17 +3,23 @@ use Prim.Native.Nat.{ℕ, _+_, _-_}
 use mathlib.Core.Bool.{cond}
 use lib.Dec.{eqb}
 use Rattle.plans.specs.declared.Row.{Row}
+use Rattle.plans.specs.declared.Asked.{Asked}
 use Rattle.plans.specs.declared.SinglePlan.{SinglePlan}
+use Rattle.plans.specs.declared.Verdict.{Verdict}
 use Rattle.plans.specs.declared.LetterAnswer.{LetterAnswer}
 use Rattle.plans.specs.declared.LetterAnswer.the-variants as letters
-use Rattle.plans.specs.declared.PlanAnswer.{PlanAnswer}
-use Rattle.plans.specs.declared.PlanAnswer.the-variants as plans
+use Rattle.plans.specs.declared.Outcome.{Outcome}
+use Rattle.plans.specs.declared.Outcome.the-variants as outcomes
+use Rattle.plans.specs.declared.VerdictAnswer.{VerdictAnswer}
+use Rattle.plans.specs.declared.VerdictAnswer.the-variants as verdicts
+use Rattle.plans.specs.declared.SinglePlanned.{SinglePlanned}
 use Rattle.rules.specs.Refusals.{Answer, refused, given}
+use Rattle.rules.specs.Verdict as rules
 use Rattle.rules.specs.Single as paper
-use Rattle.rules.specs.Entries.{Asked}
+use Rattle.rules.specs.Entries as entries
 
-abbrev pub asked : ℕ → ℕ → ℕ → ℕ → Asked
-asked severity size level column = record { severity = severity; size = size; level = level; column = column }
+abbrev pub askedPaper : Asked → entries.Asked
+askedPaper q = record { severity = q .severity; size = q .size; level = q .level; column = q .column }
 
 -- a box in a row of the code's table: 254 is an arrow down, 255 an arrow up, any other number is Ac
 abbrev pub boxIn : ℕ → paper.Box
@@ -29,10 +35,43 @@ arrowTo arrow letter = cond (eqb arrow 254) (letter + 1) (letter - 1)
 abbrev pub planPaper : SinglePlan → paper.Plan
 planPaper p = record { letter = p .letter; n = p .n; ac = p .ac }
 
+abbrev pub verdictPaper : Verdict → rules.Verdict
+verdictPaper v =
+    record { accepted = v .accepted; used = v .used; total = v .total; stage = v .stage; stages = v .stages }
+
 abbrev pub letterPaper : LetterAnswer → Answer ℕ
 letterPaper (letters.Refused n p) = refused n p
 letterPaper (letters.Given l) = given l
 
-abbrev pub paperOf : PlanAnswer → Answer paper.Plan
-paperOf (plans.Refused n p) = refused n p
-paperOf (plans.Given p) = given (planPaper p)
+abbrev pub verdictAnswer : VerdictAnswer → Answer rules.Verdict
+verdictAnswer (verdicts.Refused n p) = refused n p
+verdictAnswer (verdicts.Given v) = given (verdictPaper v)
+
+-- An answer, and the plan that stands beside it ..
+pub record Beside (P A : Type 0) : Type 0 where
+  pub answer : Answer A
+  pub plan : P
+
+-- .. which is the plan of the answer, and zeros beside a refusal.
+abbrev pub beside : {P A : Type 0} → P → (A → P) → Answer A → Beside P A
+beside zeros planOf (refused n p) = record { answer = refused n p; plan = zeros }
+beside zeros planOf (given a) = record { answer = given a; plan = planOf a }
+
+-- refused, or given the plan beside it
+abbrev pub outcomeOn : {P : Type 0} → Outcome → P → Answer P
+outcomeOn (outcomes.Refused n p) plan = refused n p
+outcomeOn outcomes.Given plan = given plan
+
+-- the verdict on the plan beside it
+abbrev pub verdictOn : {P : Type 0} → VerdictAnswer → P → Answer (rules.Judged P rules.Verdict)
+verdictOn (verdicts.Refused n p) plan = refused n p
+verdictOn (verdicts.Given v) plan = given (record { plan = plan; verdict = verdictPaper v })
+
+abbrev pub itself : {P : Type 0} → P → P
+itself p = p
+
+abbrev pub zeroPlan : paper.Plan
+zeroPlan = record { letter = 0; n = 0; ac = 0 }
+
+abbrev pub plannedPaper : SinglePlanned → Beside paper.Plan paper.Plan
+plannedPaper r = record { answer = outcomeOn (r .answer) (planPaper (r .plan)); plan = planPaper (r .plan) }

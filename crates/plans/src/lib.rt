@@ -1,11 +1,13 @@
-// Single plans of document 01: the letter of Table 1, the boxes of the master tables, the arrows, the cut to the lot.
+// Single plans of document 01: the letter of Table 1, the boxes of the master tables, the arrows, the cut to the lot;
+// and the types of a lot that is asked about, its plan and its verdict.
 ghost use mathlib.Core.Path.{_≡_};
 ghost use Prim.Native.Nat.{_+_, _-_, _≤_, _<_};
 ghost use Rattle.rules.specs.Codes.{rowOf, tableOneLetter};
 ghost use Rattle.rules.specs.Single.{rowAt, boxAt, landing, landingOf, cutTo, planAt, tighterAc};
 ghost use Rattle.rules.specs.Entries.{askedLetter, plainPlan};
-ghost use Rattle.plans.specs.Paper.{asked, boxIn, rowPaper, arrowTo};
-ghost use Rattle.plans.specs.Paper.{planPaper, letterPaper, paperOf};
+ghost use Rattle.rules.specs.Refusals.{refused};
+ghost use Rattle.plans.specs.Paper.{boxIn, rowPaper, arrowTo, askedPaper, planPaper, letterPaper};
+ghost use Rattle.plans.specs.Paper.{beside, itself, zeroPlan, plannedPaper};
 
 // Table 1: the last size of each row but the last ..
 const UP_TO: [u32; 14] = [
@@ -73,10 +75,27 @@ const UP: u8 = 255;
 // fourth that of all other letters.
 struct Row(u8, u8, u8, u8);
 
+// The lot that is asked about, under a severity.
+pub struct Asked {
+    pub severity: u32,
+    pub size: u32,
+    pub level: u32,
+    pub column: u32,
+}
+
 pub struct SinglePlan {
     pub letter: u8,
     pub n: u16,
     pub ac: u16,
+}
+
+// What judging a sample says; a sample that is not staged is one stage of one.
+pub struct Verdict {
+    pub accepted: bool,
+    pub used: u32,
+    pub total: u64,
+    pub stage: u8,
+    pub stages: u8,
 }
 
 pub enum LetterAnswer {
@@ -84,9 +103,21 @@ pub enum LetterAnswer {
     Given(u8),
 }
 
-pub enum PlanAnswer {
+// Is there a plan? It stands beside the answer.
+pub enum Outcome {
     Refused(u8, usize),
-    Given(SinglePlan),
+    Given,
+}
+
+pub enum VerdictAnswer {
+    Refused(u8, usize),
+    Given(Verdict),
+}
+
+// A plan beside the answer, zeros beside a refusal.
+pub struct SinglePlanned {
+    pub answer: Outcome,
+    pub plan: SinglePlan,
 }
 
 fn row_of(size: u32) -> usize
@@ -118,19 +149,19 @@ pub fn letter(size: u32, level: u32) -> LetterAnswer
 }
 
 // The letter of a lot that can be planned at a severity: what every look-up in a book starts from.
-pub fn asked_letter(severity: u32, size: u32, level: u32, column: u32) -> LetterAnswer
-    ensures { λ r. ⌜ letterPaper r ≡ askedLetter (asked severity size level column) ⌝ }
+pub fn asked_letter(lot: Asked) -> LetterAnswer
+    ensures { λ r. ⌜ letterPaper r ≡ askedLetter (askedPaper lot) ⌝ }
 {
-    if 3 < severity {
+    if 3 < lot.severity {
         return LetterAnswer::Refused(1, 0);
     }
-    match letter(size, level) {
+    match letter(lot.size, lot.level) {
         LetterAnswer::Refused(number, place) => LetterAnswer::Refused(number, place),
         LetterAnswer::Given(found) => {
-            if 25 < column {
+            if 25 < lot.column {
                 return LetterAnswer::Refused(4, 0);
             }
-            if severity == 3 {
+            if lot.severity == 3 {
                 return LetterAnswer::Refused(5, 0);
             }
             LetterAnswer::Given(found)
@@ -241,7 +272,7 @@ fn land(severity: u32, column: u32, letter: u8, left: u8) -> u8
 }
 
 // The size of a sample from a lot: a size at or above the lot is cut to it.
-pub fn cut(lot: u32, n: u16) -> u16
+pub fn cut_to(lot: u32, n: u16) -> u16
     ensures { λ r. ⌜ r ≡ cutTo lot n ⌝ }
 {
     if lot <= n as u32 {
@@ -256,22 +287,45 @@ fn plan_from(severity: u32, size: u32, column: u32, letter: u8) -> SinglePlan
 {
     let at = land(severity, column, letter, 15);
     let row = at as usize;
-    let n = cut(size, SIZES[row]);
+    let n = cut_to(size, SIZES[row]);
     let ac = box_at(severity, column, at) as u16;
     SinglePlan { letter: at, n, ac }
 }
 
-// The single plan of a bench without a book.
-pub fn table_plan(severity: u32, size: u32, level: u32, column: u32) -> PlanAnswer
-    ensures { λ r. ⌜ paperOf r ≡ plainPlan (asked severity size level column) ⌝ }
+// The plan beside a refusal.
+pub fn no_plan() -> SinglePlan
+    ensures { λ r. ⌜ planPaper r ≡ zeroPlan ⌝ }
 {
-    match asked_letter(severity, size, level, column) {
-        LetterAnswer::Refused(number, place) => PlanAnswer::Refused(number, place),
+    SinglePlan {
+        letter: 0,
+        n: 0,
+        ac: 0,
+    }
+}
+
+pub fn unplanned(number: u8, place: usize) -> SinglePlanned
+    ensures { λ r. ⌜ plannedPaper r ≡ beside zeroPlan itself (refused number place) ⌝ }
+{
+    SinglePlanned {
+        answer: Outcome::Refused(number, place),
+        plan: no_plan(),
+    }
+}
+
+// The single plan of a bench without a book.
+pub fn table_plan(lot: Asked) -> SinglePlanned
+    ensures { λ r. ⌜ plannedPaper r ≡ beside zeroPlan itself (plainPlan (askedPaper lot)) ⌝ }
+{
+    match asked_letter(lot) {
+        LetterAnswer::Refused(number, place) => unplanned(number, place),
         LetterAnswer::Given(first) => {
-            if severity == 2 {
-                return PlanAnswer::Refused(6, 0);
+            if lot.severity == 2 {
+                return unplanned(6, 0);
             }
-            PlanAnswer::Given(plan_from(severity, size, column, first))
+            SinglePlanned {
+                answer: Outcome::Given,
+                plan: plan_from(lot.severity, lot.size, lot.column, first),
+            }
         }
     }
 }

@@ -4,9 +4,6 @@ use borrow.Author.Tests.{eq-eqb, ne-eqb}
 use Rattle.plans.proofs.arrow_to.Statement.{statement}
 use Rattle.plans.proofs.arrow_to.Tie as tie
 
-add-result : tie.Need-add-result
-add-result c = search needs
-
 returns : tie.Need-returns
 returns c = rw (eq-eqb (c .before .args .arrow) 254 (c .if1 .taken))
 
@@ -17,4 +14,4 @@ returns-2 : tie.Need-returns-2
 returns-2 c = rw (ne-eqb (c .before .args .arrow) 254 (c .if1 .left))
 
 pub arrow-to-spec : {M : Type 1} → statement M
-arrow-to-spec = tie.close (tie.spec add-result returns sub-result returns-2)
+arrow-to-spec = tie.close (tie.spec (λ c. search needs) returns sub-result returns-2)

@@ -5,9 +5,6 @@ use Rattle.plans.proofs.Master.{box-under, box-over, box-before, box-af
 use Rattle.plans.proofs.box_at.Statement.{statement}
 use Rattle.plans.proofs.box_at.Tie as tie
 
-add-s : tie.Need-add-s
-add-s c = search needs
-
 returns : tie.Need-returns
 returns c =
     let a = c .before .args in
@@ -17,9 +14,6 @@ returns-2 : tie.Need-returns-2
 returns-2 c =
     let a = c .before .before .args in
     box-over (a .severity) (a .column) (a .letter) (omega arith) (omega arith)
-
-row-at-requires : tie.Need-row-at-requires
-row-at-requires c κs = search needs
 
 returns-3 : tie.Need-returns-3
 returns-3 c =
@@ -47,4 +41,4 @@ returns-5 c =
 
 pub box-at-spec : {M : Type 1} → statement M
 box-at-spec =
-    tie.close (tie.spec add-s returns returns-2 row-at-requires returns-3 returns-4 returns-5)
+    tie.close (tie.spec (λ c. search needs) returns returns-2 (λ c κs. search needs) returns-3 returns-4 returns-5)

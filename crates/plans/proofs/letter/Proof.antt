@@ -19,18 +19,6 @@ returns-2 c =
     let a = c .before .before .args in
     rw (le-ltb (a .size) 2 (c .before .if1 .left), lt-ltb 6 (a .level) (c .if2 .taken))
 
-row-of-requires : tie.Need-row-of-requires
-row-of-requires c κs = search needs
-
-mul-t22 : tie.Need-mul-t22
-mul-t22 c = search needs
-
-index-1-t27 : tie.Need-index-1-t27
-index-1-t27 c = search needs
-
-index-2-t27 : tie.Need-index-2-t27
-index-2-t27 c = search needs
-
 returns-3 : tie.Need-returns-3
 unfolding tableOneLetter letterOf
 returns-3 c =
@@ -42,4 +30,5 @@ returns-3 c =
 pub letter-spec : {M : Type 1} → statement M
 letter-spec =
     tie.close
-    (tie.spec returns returns-2 row-of-requires mul-t22 index-1-t27 index-2-t27 returns-3)
+    (tie.spec returns returns-2 (λ c κs. search needs) (λ c. search needs) (λ c. search needs) (λ c. search needs)
+    returns-3)

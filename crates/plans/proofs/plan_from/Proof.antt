@@ -9,43 +9,26 @@ use Rattle.plans.proofs.Arrows.{plan-there}
 use Rattle.plans.proofs.plan_from.Statement.{statement}
 use Rattle.plans.proofs.plan_from.Tie as tie
 
-land-requires : tie.Need-land-requires
-land-requires c κs = search needs
-
 -- all arrows are followed
 ended : (c : tie.After-land)
     → c .land .result
     ≡ landingOf (c .before .args .severity) (c .before .args .column) (c .before .args .letter) .letter
 ended c = c .land .ensures
 
-cast-row : tie.Need-cast-row
-cast-row c = search needs
-
-mul-cut : tie.Need-mul-cut
-mul-cut c = search needs
-
-array-read-cut : tie.Need-array-read-cut
-array-read-cut c =
+array-read-cut-to : tie.Need-array-read-cut-to
+array-read-cut-to c =
     let a = c .before .args in
     let at = landing-letter (a .severity) (a .column) (a .letter) (omega arith) (omega arith) (omega arith) in
     omega (arith, ended c)
-
-cut-requires : tie.Need-cut-requires
-cut-requires c κs = search needs
-
-box-at-requires : tie.Need-box-at-requires
-box-at-requires c κs = search needs
-
-cast-ac : tie.Need-cast-ac
-cast-ac c = search needs
 
 returns : tie.Need-returns
 returns c =
     let a = c .before .before .before .args in
     plan-there (a .severity) (a .size) (a .column) (a .letter) _ _ _ (omega arith) (omega arith) (omega arith)
-    (ended (c .before .before)) (c .before .cut .ensures) (c .box-at .ensures)
+    (ended (c .before .before)) (c .before .cut-to .ensures) (c .box-at .ensures)
 
 pub plan-from-spec : {M : Type 1} → statement M
 plan-from-spec =
     tie.close
-    (tie.spec land-requires cast-row mul-cut array-read-cut cut-requires box-at-requires cast-ac returns)
+    (tie.spec (λ c κs. search needs) (λ c. search needs) (λ c. search needs) array-read-cut-to (λ c κs. search needs)
+    (λ c κs. search needs) (λ c. search needs) returns)

@@ -5,17 +5,11 @@ use native.Mathlib.Omega.{arith}
 use Rattle.plans.proofs.row_at.Statement.{statement}
 use Rattle.plans.proofs.row_at.Tie as tie
 
-normal-row-requires : tie.Need-normal-row-requires
-normal-row-requires c κs = search needs
-
 returns : tie.Need-returns
 returns c = rw (c .before .if1 .taken) (c .normal-row .ensures)
-
-tightened-row-requires : tie.Need-tightened-row-requires
-tightened-row-requires c κs = search needs
 
 returns-2 : tie.Need-returns-2
 returns-2 c = let e : c .before .before .args .severity ≡ 1 = omega arith in rw e (c .tightened-row .ensures)
 
 pub row-at-spec : {M : Type 1} → statement M
-row-at-spec = tie.close (tie.spec normal-row-requires returns tightened-row-requires returns-2)
+row-at-spec = tie.close (tie.spec (λ c κs. search needs) returns (λ c κs. search needs) returns-2)

@@ -10,15 +10,6 @@ use Rattle.plans.proofs.Arrows.{cell-number, cell-arrow}
 use Rattle.plans.proofs.tighter_ac.Statement.{statement}
 use Rattle.plans.proofs.tighter_ac.Tie as tie
 
-tighter-column-requires : tie.Need-tighter-column-requires
-tighter-column-requires c κs = search needs
-
-box-at-requires : tie.Need-box-at-requires
-box-at-requires c κs = search needs
-
-cast-result : tie.Need-cast-result
-cast-result c = search needs
-
 -- the box that is read stands one column to the left
 one-left : (c : tie.After-box-at)
     → acOf (boxIn (c .box-at .result)) ≡ tighterAc (c .before .before .args .letter) (c .before .before .args .column)
@@ -39,4 +30,4 @@ returns-2 c =
 
 pub tighter-ac-spec : {M : Type 1} → statement M
 tighter-ac-spec =
-    tie.close (tie.spec tighter-column-requires box-at-requires cast-result returns returns-2)
+    tie.close (tie.spec (λ c κs. search needs) (λ c κs. search needs) (λ c. search needs) returns returns-2)
