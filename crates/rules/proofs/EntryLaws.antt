@@ -16,7 +16,8 @@ use Rattle.rules.specs.Severity.{Lot, sampled, lot, resubmitted, Record,
 use Rattle.rules.specs.Severity.{inRange}
 use Rattle.rules.specs.Book.{Checked, sound, brokenAt, checkBook, onSound, Found, found, nothing}
 use Rattle.rules.specs.Entries.{Asked, askedChecks, lookedUp, fromEntry, unlessAbove, judgedOn, onRecord, Closed}
-use Rattle.rules.specs.Entries.{Offered, eventFor, closedWith}
+use Rattle.rules.specs.Entries.{Offered, eventFor, closedWith, Lettered, lettered}
+use Rattle.rules.specs.Codes.{letterOf}
 use Rattle.rules.proofs.Answers.{refused-given, given-one, then-given}
 use Rattle.rules.proofs.LookUp.{broken-unsound}
 use Rattle.rules.proofs.Checks.{Plannable, plannable}
@@ -152,6 +153,29 @@ module _ {P : Type 0} (section : ℕ) (needed : List ℕ → ℕ) (planOf : List
           (lot-passes q _ (s .lot)
           ∙ rw (s .under-key, le-ltb (q .size) (needed (s .entry)) (s .within-lot)) (ap given (s .is-plan)))
 
+-- A plan with the lot's Table 1 letter.
+module _ {P : Type 0} (q : Asked) (plan : Answer P) where
+  pub lettered-on-book : {Wrong : ℕ → Type 0} (book : List ℕ) → OnBook book Wrong plan
+      → OnBook book Wrong (lettered q plan)
+  lettered-on-book book b =
+      record {
+        broken = λ byte e. rw (b .broken byte e);
+        else =
+            λ e.
+            goes-on plan (b .else e)
+            (λ p f. (record { letter = letterOf (q .size) (q .level); plan = p }, refl));
+      }
+
+  pub lettered-by : (Of : P → Type 0) → ((p : P) → (plan ≡ given p) ↔ Of p) → (x : Lettered P)
+      → (lettered q plan ≡ given x) ↔ ((letterOf (q .size) (q .level) ≡ x .letter) × Of (x .plan))
+  lettered-by Of iff x = (so, λ h. rw (iff (x .plan) .1 (h .1), h .0))
+    where
+      so : lettered q plan ≡ given x → (letterOf (q .size) (q .level) ≡ x .letter) × Of (x .plan)
+      so g =
+          let p = then-given plan _ x g in
+          let e : record { letter = letterOf (q .size) (q .level); plan = p .0 } ≡ x = given-one (p .2) in
+          (ap (λ (k : Lettered P). k .letter) e, iff (x .plan) .0 (p .1 ∙ ap (λ (k : Lettered P). given (k .plan)) e))
+
 -- A sample judged on a plan.
 module _ {P Outcome : Type 0} (plan : Answer P) (judge : P → Answer Outcome) where
   pub judged-reports : {low : ℕ} {unplanned : ℕ → Type 0} {wrong : P → ℕ → Type 0} → Reports low unplanned plan
@@ -237,7 +261,8 @@ module _ {P : Type 0} (r : Record) (o : Offered) (judged : Answer (Judged P Verd
           let h = first-given ((not (inRange r) gives unknownForm) ∷ []) _ c .0 g in
           let j = then-given judged (closedWith r o counts) c (h .1) in
           let t = then-given (step r (eventFor o (counts (j .0)))) _ c (j .2) in
-          let e : record { judged = j .0; event = eventFor o (counts (j .0)); recordAfter = t .0 } ≡ c = given-one (t .2) in
+          let e : record { judged = j .0; event = eventFor o (counts (j .0)); recordAfter = t .0 } ≡ c =
+          given-one (t .2) in
           record {
             in-range = not-false (inRange r) (h .0 .0);
             as-judged = j .1 ∙ ap (λ (k : Closed P). given (k .judged)) e;

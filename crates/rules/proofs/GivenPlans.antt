@@ -1,4 +1,4 @@
--- The plans that entries give: each passes the test of plans handed over, and has what the rules of its section give.
+-- The plans that entries give: each has what the rules of its section give.
 -- Assumes nothing.
 use Prim.Native.Nat.{ℕ, suc, _≤_, _<_}
 use mathlib.Core.Path.{_≡_, refl, sym, ap}
@@ -12,7 +12,7 @@ use lib.Dec.{T, leb, eqb, leb→le}
 use Rattle.rules.specs.Refusals.{given}
 use Rattle.rules.specs.Codes.{letterOf, reduced}
 use Rattle.rules.specs.Book.{sound, checkBook, kinds, kindAt}
-use Rattle.rules.specs.Book.{reducedSingles, staged, sequential, variables, stagedOf, sequentialOf}
+use Rattle.rules.specs.Book.{staged, sequential, variables, stagedOf, sequentialOf}
 use Rattle.rules.specs.Book.{variablesOf, couldHold}
 use Rattle.rules.specs.Book.{keyOf, keyFor}
 use Rattle.rules.specs.Numbers.{numbersOf, sumOf}
@@ -23,9 +23,9 @@ use Rattle.rules.specs.Staged.{StagedPlan, stagesOf, totalSize, stageAt,
 use Rattle.rules.specs.Sequential.{SequentialPlan, judgeSequence}
 use Rattle.rules.specs.Variables.{VariablesPlan}
 use Rattle.rules.specs.Entries.{Asked, stagedPlan, sequentialPlan}
-use Rattle.rules.specs.Entries.{variablesPlan, stagedEntry, sequentialEntry, variablesEntry, stagedSection}
+use Rattle.rules.specs.Entries.{variablesPlan, variablesEntry, stagedSection}
 use Rattle.rules.specs.Entries.{reducedSection, sequentialSection, variablesSection, singlePlan}
-use Rattle.rules.specs.Entries.{singleEntry, reducedPlan}
+use Rattle.rules.specs.Entries.{reducedPlan}
 use Rattle.rules.proofs.Bounded.{by-le, all, all-at, all-at₃, both-left, both-right}
 use Rattle.rules.proofs.Tables.{letter-within, landing-letter}
 use Rattle.rules.proofs.Deciding.{sizeOfFirst, never-runs-out, never-past, sequence-decided}
@@ -35,10 +35,10 @@ use Rattle.rules.proofs.Demands.Two.{SinglePlanned}
 use Rattle.rules.proofs.Demands.Two.{single-plan-given}
 use Rattle.rules.proofs.Checks.{Plannable}
 use Rattle.rules.proofs.LookUp.{Held, found-in, found-under, found-held, entry-in-found}
-use Rattle.rules.proofs.HeldPlans.{SingleRight, cut-right, reduced-held, single-could}
-use Rattle.rules.proofs.HeldPlans.{SequentialRight, sequential-held, sequential-could, VariablesRight}
+use Rattle.rules.proofs.HeldPlans.{SingleRight, cut-right, reduced-held}
+use Rattle.rules.proofs.HeldPlans.{SequentialRight, sequential-held, VariablesRight}
 use Rattle.rules.proofs.HeldPlans.{variables-held, variables-could}
-use Rattle.rules.proofs.HeldStaged.{StagedRight, staged-held, staged-could}
+use Rattle.rules.proofs.HeldStaged.{StagedRight, staged-held}
 
 -- an entry of a sound book under the key of a lot that can be planned, and not above it, supplies the plan
 supplies : {P : Type 0} (j : ℕ) (needed : List ℕ → ℕ) (planOf : List ℕ → P) (q : Asked) (book : List ℕ)
@@ -108,31 +108,31 @@ supplied-held j needed planOf q book p inside s =
 
 module _ (q : Asked) (book : List ℕ) where
   pub staged-given : (p : StagedPlan) → stagedPlan q book ≡ given p
-      → StagedRight p × (couldHold staged (stagedEntry p) ≡ true)
+      → StagedRight p
   staged-given p h =
       let s = staged-plan-given q book p .0 h in
       let k : Held staged (s .entry) = supplied-held stagedSection _ stagedOf q book p (omega arith) s in
-      rw (← s .is-plan) (staged-held (s .entry) k, staged-could (s .entry) k)
+      rw (← s .is-plan) (staged-held (s .entry) k)
 
   -- the last stage decides, so that no sample on such a plan runs past its stages
   pub staged-in-time : (p : StagedPlan) → stagedPlan q book ≡ given p → (xs : List ℕ)
       → ((i : ℕ) → i < p .stages → stageDecides (stageAt p i) (sumOf (take (sizeOfFirst (suc i) p) xs)) ≡ goesOn) → ⊥
   staged-in-time p h =
-      let r = staged-given p h .0 in
+      let r = staged-given p h in
       never-runs-out p (omega (arith, r .few .0)) (r .decides)
 
   pub sequential-given : (p : SequentialPlan) → sequentialPlan q book ≡ given p
-      → SequentialRight p × (couldHold sequential (sequentialEntry p) ≡ true)
+      → SequentialRight p
   sequential-given p h =
       let s = sequential-plan-given q book p .0 h in
       let k : Held sequential (s .entry) = supplied-held sequentialSection _ sequentialOf q book p (omega arith) s in
-      rw (← s .is-plan) (sequential-held (s .entry) k, sequential-could (s .entry) k)
+      rw (← s .is-plan) (sequential-held (s .entry) k)
 
   -- nt decides at the latest, so that no sample on such a plan uses more items
   pub sequential-in-time : (p : SequentialPlan) → sequentialPlan q book ≡ given p → (sample : List ℕ) (v : Verdict)
       → judgeSequence p sample ≡ given v → v .used ≤ p .nt
   sequential-in-time p h sample v j =
-      never-past p (sequential-given p h .0 .nt .0) sample v (sequence-decided p sample v .0 j)
+      never-past p (sequential-given p h .nt .0) sample v (sequence-decided p sample v .0 j)
 
   pub variables-given : (p : VariablesPlan) → variablesPlan q book ≡ given p
       → VariablesRight p × (couldHold variables (variablesEntry p) ≡ true)
@@ -175,8 +175,8 @@ table-right q s z c =
 
 -- a single plan, of a table or of the book
 pub single-given : (q : Asked) (book : List ℕ) (p : Plan) → singlePlan q book ≡ given p
-    → SingleRight p × (couldHold reducedSingles (singleEntry p) ≡ true)
-single-given q book p h = let r : SingleRight p = go (eqb (q .severity) reduced) refl in (r, single-could p r)
+    → SingleRight p
+single-given q book p h = go (eqb (q .severity) reduced) refl
   where
     s : SinglePlanned q book p
     s = single-plan-given q book p .0 h

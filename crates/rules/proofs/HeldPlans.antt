@@ -1,5 +1,4 @@
--- Plans that a sound book could hold: what the rules of their section give, and that a plan taken from an entry of a
--- sound book passes the test of plans that are handed over.
+-- Plans that a sound book could hold: what the rules of their section give.
 -- Assumes nothing.
 use Prim.Native.Nat.{ℕ, _+_, _*_, _-_, _/_, _≤_, _<_}
 use mathlib.Core.Path.{_≡_, refl, ap, sym, _∙_}
@@ -11,7 +10,7 @@ use lib.ListN.{getD, length, take}
 use lib.Seq.{getD-take}
 use lib.Dec.{leb}
 use Rattle.rules.specs.Book.{Kind, Range, within, anything, right, numbersFrom, sizeOf, couldHold}
-use Rattle.rules.specs.Book.{reducedSingles, sequential, variables, sequentialRule, atFits}
+use Rattle.rules.specs.Book.{reducedSingles, sequential, variables, atFits}
 use Rattle.rules.specs.Book.{sequentialOf, variablesOf}
 use Rattle.rules.specs.Codes.{letterOf}
 use Rattle.rules.specs.Single.{Plan, cutTo}
@@ -20,7 +19,7 @@ use Rattle.rules.specs.Verdict.{accepts, rejects}
 use Rattle.rules.specs.Numbers.{numbersOf}
 use Rattle.rules.specs.Book.{checkBook, sound, kinds, kindAt, lookUp, Found, found, nothing}
 use Rattle.rules.specs.Variables.{VariablesPlan}
-use Rattle.rules.specs.Entries.{Asked, singleEntry, sequentialEntry, variablesEntry, reducedPlan}
+use Rattle.rules.specs.Entries.{Asked, variablesEntry, reducedPlan}
 use Rattle.rules.proofs.Bools.{and-left, and-right}
 use Rattle.rules.proofs.SectionKinds.{item-columns, entry-deep}
 use Rattle.rules.proofs.Steps.{sequential-at}
@@ -96,19 +95,6 @@ reduced-held q s e h =
     cut-right (q .size) s (record { letter = letterOf (q .size) (q .level); n = getD e 2 0; ac = getD e 3 0 })
     (single-held e h (letterOf (q .size) (q .level)))
 
-pub single-right : (p : Plan) → couldHold reducedSingles (singleEntry p) ≡ true → SingleRight p
-single-right p h = single-held (singleEntry p) (held reducedSingles (singleEntry p) h) (p .letter)
-
-pub single-could : (p : Plan) → SingleRight p → couldHold reducedSingles (singleEntry p) ≡ true
-unfolding couldHold numbersFrom right
-single-could p r =
-    rw (
-      le-leb 1 (p .n) (r .some),
-      le-leb (p .n) 3150 (r .few),
-      le-leb 0 (p .ac) (omega arith),
-      le-leb (p .ac) 65534 (r .ac),
-    )
-
 -- "hA, hR (both 1 or more), g 1 to 60,000, nt 1 to 3,150, At with floor(g·nt − hA) ≤ At < ceiling(g·nt + hR)": at the
 -- last
 -- item At agrees with the two lines.
@@ -157,27 +143,6 @@ sequential-held e h =
       rejects =
           λ d. fits-rejects (getD e 3 0) (getD e 4 0) (getD e 5 0) (getD e 6 0) (getD e 7 0) d (sequential-fits e h);
     }
-
-pub sequential-right : (p : SequentialPlan) → couldHold sequential (sequentialEntry p) ≡ true → SequentialRight p
-sequential-right p h = sequential-held (sequentialEntry p) (held sequential (sequentialEntry p) h)
-
-pub sequential-could : (e : List ℕ) → Held sequential e → couldHold sequential (sequentialEntry (sequentialOf e)) ≡ true
-unfolding couldHold numbersFrom right sequentialRule
-sequential-could e h =
-    let r = sequential-held e h in
-    rw (
-      le-leb 1 (getD e 3 0) (r .hA .0),
-      le-leb (getD e 3 0) 65535 (r .hA .1),
-      le-leb 1 (getD e 4 0) (r .hR .0),
-      le-leb (getD e 4 0) 65535 (r .hR .1),
-      le-leb 1 (getD e 5 0) (r .g .0),
-      le-leb (getD e 5 0) 60000 (r .g .1),
-      le-leb 1 (getD e 6 0) (r .nt .0),
-      le-leb (getD e 6 0) 3150 (r .nt .1),
-      le-leb 0 (getD e 7 0) (omega arith),
-      le-leb (getD e 7 0) 65535 (r .atNt),
-      sequential-fits e h,
-    )
 
 -- At the last item the verdict by At is the one that a line gives.
 pub accept-line : (p : SequentialPlan) → SequentialRight p → (d : ℕ) → onAcceptLine p (p .nt) d ≡ true

@@ -16,7 +16,6 @@ pub mod Feeding
 pub mod GivenPlans
 pub mod HeldPlans
 pub mod HeldStaged
-pub mod HeldTests
 pub mod Histories
 pub mod Items
 pub mod Landing

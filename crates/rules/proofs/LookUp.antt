@@ -47,15 +47,6 @@ module _ (k : Kind) (e : List ℕ) where
       go (broken p) h t = absurd (true≢false (sym h))
       go short h t = absurd (true≢false (sym h))
 
-  pub could-hold : Held k e → couldHold k e ≡ true
-  unfolding couldHold
-  could-hold h = go (numbersFrom k e (sizeOf k e) 0) told
-    where
-      go : (w : Walk) → Tells (Wrong k e 0 (sizeOf k e)) (sizeOf k e) (length e) w → isEnd w ≡ true
-      go (ends p) t = refl
-      go (broken p) t = absurd (true≢false (sym (h .each p (t .1 .0)) ∙ t .0 .1 .1 .1))
-      go short t = let z : ⊥ = omega (arith, h .whole, t .0) in absurd z
-
 -- what two walks that end have in between
 record Ended (w : Walk) (f : ℕ → Walk) : Type 0 where
   first : ℕ

@@ -14,7 +14,7 @@ use lib.ListN.{length}
 use Rattle.rules.specs.Refusals.{refused, given, noPlan, wrongLength, outOfRange}
 use Rattle.rules.specs.Book.{couldHold, variables}
 use Rattle.rules.specs.Variables.{inGauge, allInGauge, readingsOf, sumZ, squaresZ, spread, margin}
-use Rattle.rules.specs.Variables.{withinSpread, acceptsReadings, judgeReadings}
+use Rattle.rules.specs.Variables.{withinSpread, acceptsReadings, readingsVerdict, judgeReadings}
 use Rattle.rules.specs.Screen.{shownOf, screen}
 use Rattle.rules.specs.Entries.{variablesEntry, variablesSample}
 use Rattle.rules.proofs.Diff.{Diff, move, diff-pos, diff-minus, diff-mul, diff-le, diff-unique, leb-same}
@@ -114,12 +114,9 @@ module _ (upper : Bool) (n k : ℕ) (limit : ℤ) (bytes : List ℕ) where
         pub sample-judged : inGauge limit ≡ true
             → variablesSample upper (record { n = n; k = k }) limit bytes
             ≡ given
-            (record {
-              accepted =
-                  withinSpread n k (margin upper n (sumZ (readingsOf bytes)) limit)
-                  (spread n (sumZ (readingsOf bytes)) (squaresZ (readingsOf bytes)));
-              used = n;
-            })
+            (readingsVerdict (record { n = n; k = k })
+            (withinSpread n k (margin upper n (sumZ (readingsOf bytes)) limit)
+            (spread n (sumZ (readingsOf bytes)) (squaresZ (readingsOf bytes)))))
         unfolding judgeReadings acceptsReadings
         sample-judged g = on-plan ∙ rw (eq-eqb (length bytes) (2 * n) e, a, g) refl
 

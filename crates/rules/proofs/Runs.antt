@@ -114,7 +114,9 @@ module _ (P : Event → Type 0) (r : Record) where
     judged-enters a = go (inRange r) a
       where
         with-step : (j : Judged Q Verdict) (a : Answer Record) → step r (eventFor o (counts j)) ≡ a
-            → Enters P r (enteredBy (andThen a (λ t. given (record { judged = j; event = eventFor o (counts j); recordAfter = t }))))
+            → Enters P r
+            (enteredBy
+            (andThen a (λ t. given (record { judged = j; event = eventFor o (counts j); recordAfter = t }))))
         with-step j (refused n k) q = tt
         with-step j (given t) q = (q, p (counts j))
 

@@ -16,7 +16,7 @@ use Rattle.rules.specs.Numbers.{halfLeft, numbersOf, sumOf}
 use Rattle.rules.specs.Codes.{anyIllegal}
 use Rattle.rules.specs.Verdict.{Verdict}
 use Rattle.rules.specs.Single.{Plan, singleVerdict, judgeItems}
-use Rattle.rules.specs.Variables.{VariablesPlan, Gauged, allInGauge, readingsOf, judgeReadings, inGauge}
+use Rattle.rules.specs.Variables.{VariablesPlan, readingsVerdict, allInGauge, readingsOf, judgeReadings, inGauge}
 use Rattle.rules.specs.Variables.{acceptsReadings}
 use Rattle.rules.proofs.Bools.{or-neither}
 use Rattle.rules.proofs.Refusals.{Row, NoRow, Reports, check, nothing-wrong}
@@ -94,18 +94,18 @@ module _ (upper : Bool) (limit : ℤ) (bytes : List ℕ) (plan : VariablesPlan) 
       (check 9 (not (allInGauge (readingsOf bytes)) || not (inGauge limit))
       (out-so (allInGauge (readingsOf bytes)) (inGauge limit) refl refl) out-then (le-refl 9) nothing-wrong)
 
-  pub record ReadingsJudged (v : Gauged) : Type 0 where
+  pub record ReadingsJudged (v : Verdict) : Type 0 where
     pub whole : length bytes ≡ 2 * plan .n
     pub readings-in : OutAt (readingsOf bytes) → ⊥
     pub limit-in : inGauge limit ≡ true
-    pub verdict : record { accepted = acceptsReadings upper plan limit (readingsOf bytes); used = plan .n } ≡ v
+    pub verdict : readingsVerdict plan (acceptsReadings upper plan limit (readingsOf bytes)) ≡ v
 
   in-both : (a b : Bool) → (not a || not b) ≡ false → (a ≡ true) × (b ≡ true)
   in-both true true e = (refl, refl)
   in-both true false e = absurd (false≢true (sym e))
   in-both false b e = absurd (false≢true (sym e))
 
-  pub readings-given : (v : Gauged) → (judgeReadings upper plan limit bytes ≡ given v) ↔ ReadingsJudged v
+  pub readings-given : (v : Verdict) → (judgeReadings upper plan limit bytes ≡ given v) ↔ ReadingsJudged v
   unfolding judgeReadings
   readings-given v = (
     λ g.
@@ -129,7 +129,7 @@ module _ (upper : Bool) (limit : ℤ) (bytes : List ℕ) (plan : VariablesPlan) 
       two : (judgeReadings upper plan limit bytes ≡ given v)
           ↔ ((not (eqb (length bytes) (2 * plan .n)) ≡ false)
           × ((not (allInGauge (readingsOf bytes)) || not (inGauge limit)) ≡ false)
-          × (record { accepted = acceptsReadings upper plan limit (readingsOf bytes); used = plan .n } ≡ v))
+          × (readingsVerdict plan (acceptsReadings upper plan limit (readingsOf bytes)) ≡ v))
       two = two-given _ _ 7 9 _ v
 
 -- The readings that a screen shows: 1 to 50, none half there.

@@ -13,9 +13,7 @@ use Rattle.rules.specs.Codes.{illegal, anyIllegal}
 use Rattle.rules.specs.Single.{Plan, singleVerdict, judgeItems}
 use Rattle.rules.specs.Verdict.{Verdict}
 use Rattle.rules.specs.Staged.{Taken, missing, over, taken, takeItems}
-use Rattle.rules.specs.Book.{reducedSingles, couldHold}
-use Rattle.rules.specs.Entries.{singleEntry, singleSample}
-use Rattle.rules.proofs.HeldPlans.{SingleRight, single-right}
+use Rattle.rules.specs.Entries.{singleSample}
 use Rattle.rules.proofs.Numbers.{numbers-low, numbers-high}
 
 all-taken : (column total : ℕ) (xs : List ℕ)
@@ -43,42 +41,30 @@ either : (p : Plan) (t : Bool) (sum : ℕ)
 either p true sum = refl
 either p false sum = refl
 
-never : (t : Bool) → (t ≡ true → ⊥) → t ≡ false
-never true h = absurd (h refl)
-never false h = refl
-
-pub single-cannot : (p : Plan) → (SingleRight p → ⊥) → couldHold reducedSingles (singleEntry p) ≡ false
-single-cannot p h = never (couldHold reducedSingles (singleEntry p)) (λ e. h (single-right p e))
-
 module _ (column : ℕ) (p : Plan) (s : List ℕ) where
   pub sample-column : 25 < column → singleSample column p s ≡ refused 4 0
   unfolding singleSample
   sample-column h = rw (lt-ltb 25 column h)
 
   module _ (c : column ≤ 25) where
-    pub sample-cannot : couldHold reducedSingles (singleEntry p) ≡ false → singleSample column p s ≡ refused 6 0
-    unfolding singleSample
-    sample-cannot h = rw (le-ltb 25 column c, h)
+    pub sample-length : (length s ≡ 2 * p .n → ⊥) → singleSample column p s ≡ refused 7 0
+    unfolding singleSample judgeItems
+    sample-length l = rw (le-ltb 25 column c, ne-eqb (length s) (2 * p .n) l)
 
-    module _ (h : couldHold reducedSingles (singleEntry p) ≡ true) where
-      pub sample-length : (length s ≡ 2 * p .n → ⊥) → singleSample column p s ≡ refused 7 0
+    module _ (l : length s ≡ 2 * p .n) where
+      count : length (numbersOf s) ≡ p .n
+      count = omega (arith, numbers-low s, numbers-high s)
+
+      sample-judged : singleSample column p s
+          ≡ cond (anyIllegal column (numbersOf s)) (refused 8 0) (given (singleVerdict p (sumOf (numbersOf s))))
       unfolding singleSample judgeItems
-      sample-length l = rw (le-ltb 25 column c, h, ne-eqb (length s) (2 * p .n) l)
+      sample-judged = rw (le-ltb 25 column c, eq-eqb (length s) (2 * p .n) l)
 
-      module _ (l : length s ≡ 2 * p .n) where
-        count : length (numbersOf s) ≡ p .n
-        count = omega (arith, numbers-low s, numbers-high s)
-
-        sample-judged : singleSample column p s
-            ≡ cond (anyIllegal column (numbersOf s)) (refused 8 0) (given (singleVerdict p (sumOf (numbersOf s))))
-        unfolding singleSample judgeItems
-        sample-judged = rw (le-ltb 25 column c, h, eq-eqb (length s) (2 * p .n) l)
-
-        pub sample-taken : judgedAs p (takeItems column (p .n) 0 (numbersOf s)) ≡ singleSample column p s
-        sample-taken =
-            ap (λ (k : ℕ). judgedAs p (takeItems column k 0 (numbersOf s))) (sym count)
-            ∙ ap (judgedAs p) (all-taken column 0 (numbersOf s))
-            ∙ either p (anyIllegal column (numbersOf s)) (0 + sumOf (numbersOf s))
-            ∙ ap (λ (t : ℕ). cond (anyIllegal column (numbersOf s)) (refused 8 0) (given (singleVerdict p t)))
-            (omega arith)
-            ∙ sym sample-judged
+      pub sample-taken : judgedAs p (takeItems column (p .n) 0 (numbersOf s)) ≡ singleSample column p s
+      sample-taken =
+          ap (λ (k : ℕ). judgedAs p (takeItems column k 0 (numbersOf s))) (sym count)
+          ∙ ap (judgedAs p) (all-taken column 0 (numbersOf s))
+          ∙ either p (anyIllegal column (numbersOf s)) (0 + sumOf (numbersOf s))
+          ∙ ap (λ (t : ℕ). cond (anyIllegal column (numbersOf s)) (refused 8 0) (given (singleVerdict p t)))
+          (omega arith)
+          ∙ sym sample-judged

@@ -1,10 +1,9 @@
 -- Each public entry: the order of its refusals and its answer. Definitions only.
-use Prim.Native.Nat.{ℕ, zero, suc}
+use Prim.Native.Nat.{ℕ}
 use mathlib.Core.Bool.{Bool, cond, _&&_, not}
 use mathlib.Core.List.{List, [], _∷_, _++_}
 use lib.Dec.{ltb, eqb}
 use lib.IntN.{ℤ}
-use lib.ListN.{getD}
 use Rattle.rules.specs.Refusals.{Answer, refused, given, Check, _gives_, firstOf, andThen, unknownForm}
 use Rattle.rules.specs.Refusals.{noSuchColumn, whileStopped, noPlan, illegalItem}
 use Rattle.rules.specs.Codes.{reduced, stopped, countsItems, lotChecks, letterOf}
@@ -12,52 +11,30 @@ use Rattle.rules.specs.Verdict.{Verdict, Judged}
 use Rattle.rules.specs.Single.{Plan, cutTo, tablePlan, tighterAc, singleVerdict, judgeItems}
 use Rattle.rules.specs.Staged.{StagedPlan, stagesOf, totalSize, judgeStages}
 use Rattle.rules.specs.Sequential.{SequentialPlan, judgeSequence}
-use Rattle.rules.specs.Variables.{VariablesPlan, Gauged, judgeReadings}
+use Rattle.rules.specs.Variables.{VariablesPlan, judgeReadings}
 use Rattle.rules.specs.Severity.{Lot, sampled, Event, lot, resubmitted, Record, step, inRange, counted}
 use Rattle.rules.specs.Severity.{singlePoints, stagedPoints}
 use Rattle.rules.specs.History.{Work, eventIn}
-use Rattle.rules.specs.Book.{Kind, reducedSingles, staged, sequential, variables, couldHold, Found, found}
-use Rattle.rules.specs.Book.{nothing, lookUp, checkBook, onSound, every, reducedOf, stagedOf, sequentialOf}
+use Rattle.rules.specs.Book.{Kind, variables, couldHold, Found, found}
+use Rattle.rules.specs.Book.{nothing, lookUp, checkBook, onSound, reducedOf, stagedOf, sequentialOf}
 use Rattle.rules.specs.Book.{variablesOf}
 use Rattle.rules.specs.Numbers.{numbersOf}
 
--- The numbers of a plan as an entry of its kind, under any key.
-abbrev pub singleEntry : Plan → List ℕ
-singleEntry p = 0 ∷ 0 ∷ p .n ∷ p .ac ∷ []
+-- A sample judged on a plan that is handed over. Every plan of these kinds has a verdict or a refusal of its own.
+unfoldable pub singleSample : ℕ → Plan → List ℕ → Answer Verdict
+singleSample column plan bytes = firstOf ((ltb 25 column gives noSuchColumn) ∷ []) (judgeItems column plan bytes)
 
-unfoldable pub pairsFrom : ℕ → ℕ → List ℕ → List ℕ → List ℕ
-pairsFrom zero i acs res = []
-pairsFrom (suc k) i acs res = getD acs i 0 ∷ getD res i 0 ∷ pairsFrom k (suc i) acs res
+unfoldable pub stagedSample : ℕ → StagedPlan → List ℕ → Answer Verdict
+stagedSample column plan bytes = firstOf ((ltb 25 column gives noSuchColumn) ∷ []) (judgeStages column plan bytes)
 
-abbrev pub stagedEntry : StagedPlan → List ℕ
-stagedEntry p =
-    0 ∷ 0 ∷ 0 ∷ p .stages ∷ (every 0 1 (p .stages) (p .sizes) ++ pairsFrom (p .stages) 0 (p .acs) (p .res))
-
-abbrev pub sequentialEntry : SequentialPlan → List ℕ
-sequentialEntry p = 0 ∷ 0 ∷ 0 ∷ p .hA ∷ p .hR ∷ p .g ∷ p .nt ∷ p .atNt ∷ []
-
+-- 6 for a variables plan that no sound book could hold: its numbers as an entry, under any key
 abbrev pub variablesEntry : VariablesPlan → List ℕ
 variablesEntry p = 0 ∷ 0 ∷ 0 ∷ p .n ∷ p .k ∷ []
 
--- A sample judged on a plan that is handed over: 6 for one that no sound book could hold.
 abbrev pub unlessHeld : Kind → List ℕ → Check
 unlessHeld k e = not (couldHold k e) gives noPlan
 
-unfoldable pub singleSample : ℕ → Plan → List ℕ → Answer Verdict
-singleSample column plan bytes =
-    firstOf ((ltb 25 column gives noSuchColumn) ∷ unlessHeld reducedSingles (singleEntry plan) ∷ [])
-    (judgeItems column plan bytes)
-
-unfoldable pub stagedSample : ℕ → StagedPlan → List ℕ → Answer Verdict
-stagedSample column plan bytes =
-    firstOf ((ltb 25 column gives noSuchColumn) ∷ unlessHeld staged (stagedEntry plan) ∷ [])
-    (judgeStages column plan bytes)
-
-unfoldable pub sequentialSample : SequentialPlan → List ℕ → Answer Verdict
-sequentialSample plan bytes =
-    firstOf (unlessHeld sequential (sequentialEntry plan) ∷ []) (judgeSequence plan bytes)
-
-unfoldable pub variablesSample : Bool → VariablesPlan → ℤ → List ℕ → Answer Gauged
+unfoldable pub variablesSample : Bool → VariablesPlan → ℤ → List ℕ → Answer Verdict
 variablesSample upper plan limit bytes =
     firstOf (unlessHeld variables (variablesEntry plan) ∷ []) (judgeReadings upper plan limit bytes)
 
@@ -144,6 +121,15 @@ variablesPlan q book =
     (firstOf (askedChecks q)
     (fromEntry (lookedUp variablesSection q book) (λ e. unlessAbove (q .size) (variablesOf e .n) (variablesOf e))))
 
+-- A plan that only a book supplies, with the lot's Table 1 letter.
+pub record Lettered (P : Type 0) : Type 0 where
+  pub letter : ℕ
+  pub plan : P
+
+-- staged_plan, sequential_plan, variables_plan
+abbrev pub lettered : {P : Type 0} → Asked → Answer P → Answer (Lettered P)
+lettered q a = andThen a (λ p. given (record { letter = letterOf (q .size) (q .level); plan = p }))
+
 -- a plan, and then the verdict on it
 abbrev pub judgedOn : {P Outcome : Type 0} → (P → Answer Outcome) → P → Answer (Judged P Outcome)
 judgedOn judge plan = andThen (judge plan) (λ v. given (record { plan = plan; verdict = v }))
@@ -158,7 +144,7 @@ judgeStaged q book sample = andThen (stagedPlan q book) (judgedOn (λ plan. judg
 unfoldable pub judgeSequential : Asked → List ℕ → List ℕ → Answer (Judged SequentialPlan Verdict)
 judgeSequential q book sample = andThen (sequentialPlan q book) (judgedOn (λ plan. judgeSequence plan sample))
 
-unfoldable pub judgeVariables : Bool → Asked → List ℕ → ℤ → List ℕ → Answer (Judged VariablesPlan Gauged)
+unfoldable pub judgeVariables : Bool → Asked → List ℕ → ℤ → List ℕ → Answer (Judged VariablesPlan Verdict)
 judgeVariables upper q book limit readings =
     andThen (variablesPlan q book) (judgedOn (λ plan. judgeReadings upper plan limit readings))
 

@@ -4,8 +4,8 @@ use mathlib.Core.Bool.{Bool, true, false, cond}
 use mathlib.Core.List.{List, [], _∷_}
 use Rattle.rules.specs.Refusals.{Answer, refused, given, wrongLength}
 
--- A verdict on a sample of items: accepted or not, the items used, their total, the stage that decided, and how many
--- stages the plan has (one, where it is not staged).
+-- A verdict on a sample: accepted or not, the items or readings used, the total of the items, the stage that decided,
+-- and how many stages the plan has (one, where it is not staged).
 pub record Verdict : Type 0 where
   pub accepted : Bool
   pub used : ℕ

@@ -21,17 +21,17 @@ use Rattle.rules.specs.Verdict.{Verdict, Judged}
 use Rattle.rules.specs.Single.{Plan, tablePlan, singleVerdict, judgeItems}
 use Rattle.rules.specs.Staged.{StagedPlan, stagesOf, totalSize, judgeStages}
 use Rattle.rules.specs.Sequential.{SequentialPlan, judgeSequence}
-use Rattle.rules.specs.Book.{Kind, reducedSingles, staged, sequential, variables, couldHold, sound, checkBook}
+use Rattle.rules.specs.Book.{variables, couldHold, sound, checkBook}
 use Rattle.rules.specs.Book.{Found, found, nothing, stagedOf, sequentialOf, variablesOf}
-use Rattle.rules.specs.Entries.{unlessHeld, singleEntry, stagedEntry, sequentialEntry, variablesEntry}
-use Rattle.rules.specs.Entries.{singleSample, stagedSample, sequentialSample, variablesSample, Asked}
+use Rattle.rules.specs.Entries.{unlessHeld, variablesEntry, Lettered, lettered}
+use Rattle.rules.specs.Entries.{singleSample, stagedSample, variablesSample, Asked}
 use Rattle.rules.specs.Entries.{askedLetter, lookedUp, reducedSection, stagedSection, sequentialSection}
 use Rattle.rules.specs.Entries.{variablesSection, fromEntry, reducedPlan, singlePlan, plainPlan, stagedPlan}
 use Rattle.rules.specs.Entries.{sequentialPlan, variablesPlan, judgeSingle, judgeStaged, judgeSequential}
 use Rattle.rules.specs.Entries.{judgeVariables, totalOn, judgeTotal, next, Closed, Offered, askedOn}
 use Rattle.rules.specs.Entries.{singleCounts, stagedCounts, closeSingle, closeStaged, closeTotal}
 use Rattle.rules.specs.Severity.{lot, Record, fresh, step, inRange}
-use Rattle.rules.specs.Variables.{VariablesPlan, Gauged, allInGauge, readingsOf, judgeReadings, sumZ, squaresZ}
+use Rattle.rules.specs.Variables.{VariablesPlan, allInGauge, readingsOf, judgeReadings, sumZ, squaresZ}
 use Rattle.rules.specs.Reading.{severityRead}
 use Rattle.rules.specs.History.{Work, eventIn, past, afterHistory, listed, leftIn}
 use Rattle.rules.proofs.Histories.{from-refused, written-length, written-at, written-past}
@@ -47,7 +47,7 @@ use Rattle.rules.proofs.Deciding.{EndsAtStage, MeetsInStage, stages-dec
 use Rattle.rules.proofs.EntryLaws.{LotRows, lot-reports, lot-passes, lot-given, OnBook, on-book, sound-given}
 use Rattle.rules.proofs.EntryLaws.{fromBook, NoPlan, book-plan-reports, Supplies, book-plan-given, two-given}
 use Rattle.rules.proofs.EntryLaws.{judged-on-book, judged-by, Closes, closing-reports, closing-given}
-use Rattle.rules.proofs.EntryLaws.{closing-on-book, closing-book-given}
+use Rattle.rules.proofs.EntryLaws.{closing-on-book, closing-book-given, lettered-on-book, lettered-by}
 use Rattle.rules.proofs.SMethod.{OutAt, out-means, out-when, all-in}
 use Rattle.rules.proofs.SampleLaws.{ItemRows, items-refused, ItemsJudged, items-given, ReadingRows}
 use Rattle.rules.proofs.SampleLaws.{readings-refused, ReadingsJudged, readings-given, unfit, fits, Fits}
@@ -192,6 +192,34 @@ module _ (q : Asked) (book : List ℕ) where
   unfolding variablesPlan fromBook
   variables-plan-given = book-plan-given variablesSection variablesNeeds variablesOf q book
 
+  -- Published with the lot's Table 1 letter: refused as the plan is, given exactly with that letter and that plan.
+  pub staged-lettered-refused : OnBook book StagedPlanRows (lettered q (stagedPlan q book))
+  staged-lettered-refused = lettered-on-book q (stagedPlan q book) book staged-plan-refused
+
+  pub staged-lettered-given : (x : Lettered StagedPlan)
+      → (lettered q (stagedPlan q book) ≡ given x)
+      ↔ ((letterOf (q .size) (q .level) ≡ x .letter)
+      × Supplies stagedSection stagedNeeds stagedOf q book (x .plan))
+  staged-lettered-given = lettered-by q (stagedPlan q book) _ staged-plan-given
+
+  pub sequential-lettered-refused : OnBook book SequentialPlanRows (lettered q (sequentialPlan q book))
+  sequential-lettered-refused = lettered-on-book q (sequentialPlan q book) book sequential-plan-refused
+
+  pub sequential-lettered-given : (x : Lettered SequentialPlan)
+      → (lettered q (sequentialPlan q book) ≡ given x)
+      ↔ ((letterOf (q .size) (q .level) ≡ x .letter)
+      × Supplies sequentialSection sequentialNeeds sequentialOf q book (x .plan))
+  sequential-lettered-given = lettered-by q (sequentialPlan q book) _ sequential-plan-given
+
+  pub variables-lettered-refused : OnBook book VariablesPlanRows (lettered q (variablesPlan q book))
+  variables-lettered-refused = lettered-on-book q (variablesPlan q book) book variables-plan-refused
+
+  pub variables-lettered-given : (x : Lettered VariablesPlan)
+      → (lettered q (variablesPlan q book) ≡ given x)
+      ↔ ((letterOf (q .size) (q .level) ≡ x .letter)
+      × Supplies variablesSection variablesNeeds variablesOf q book (x .plan))
+  variables-lettered-given = lettered-by q (variablesPlan q book) _ variables-plan-given
+
 -- 3. A lot judged: its plan, and then its sample. Where there is no plan, the plan's refusal.
 module _ (q : Asked) (book sample : List ℕ) where
   pub judge-single-refused :
@@ -254,7 +282,7 @@ module _ (q : Asked) (book sample : List ℕ) where
       judged-on-book (variablesPlan q book) _ book (variables-plan-refused q book)
       (λ plan. seen-from 1 (omega arith) (readings-refused upper limit sample plan))
 
-  pub judge-variables-given : (upper : Bool) (limit : ℤ) (j : Judged VariablesPlan Gauged)
+  pub judge-variables-given : (upper : Bool) (limit : ℤ) (j : Judged VariablesPlan Verdict)
       → (judgeVariables upper q book limit sample ≡ given j)
       ↔ ((variablesPlan q book ≡ given (j .plan)) × ReadingsJudged upper limit sample (j .plan) (j .verdict))
   unfolding judgeVariables
@@ -485,24 +513,9 @@ module _ (bytes : List ℕ) where
           × (shownOf (length bytes / 2) (sumZ (readingsOf bytes)) (squaresZ (readingsOf bytes)) ≡ s))
       two = two-given _ _ 7 9 _ s
 
--- 8. A sample judged on a plan that is handed over: 6 for one that no sound book could hold, and 4 for a column over
--- 25
--- where the column says which items are legal.
-module _ (k : Kind) (e : List ℕ) where
-  abbrev pub HeldRows : (ℕ → Type 0) → ℕ → Type 0
-  HeldRows more = Row 6 (couldHold k e ≡ false) more
-
-  held-reports : {A : Type 0} {more : ℕ → Type 0} {rest : Answer A} → Reports 7 more rest
-      → Reports 6 (HeldRows more) (firstOf (unlessHeld k e ∷ []) rest)
-  held-reports r = check 6 (not (couldHold k e)) (not-true (couldHold k e)) (λ f. ap not f) (omega arith) r
-
-  held-given : {A : Type 0} (rest : Answer A) (x : A)
-      → (firstOf (unlessHeld k e ∷ []) rest ≡ given x) ↔ ((couldHold k e ≡ true) × (rest ≡ given x))
-  held-given rest x =
-      let iff = first-given (unlessHeld k e ∷ []) rest x in
-      (λ g. (not-false (couldHold k e) (iff .0 g .0 .0), iff .0 g .1), λ h. iff .1 ((ap not (h .0), tt), h .1))
-
-column-reports : {A : Type 0} {more : ℕ → Type 0} {rest : Answer A} (column : ℕ) → Reports 6 more rest
+-- 8. A sample judged on a plan that is handed over: 4 for a column over 25 where the column says which items are legal,
+-- 6 for a variables plan that no sound book could hold.
+column-reports : {A : Type 0} {more : ℕ → Type 0} {rest : Answer A} (column : ℕ) → Reports 7 more rest
     → Reports 4 (Row 4 (25 < column) more) (cond (ltb 25 column) (refused 4 0) rest)
 column-reports column r = check 4 (ltb 25 column) (ltb-true 25 column) (lt-ltb 25 column) (omega arith) r
 
@@ -514,87 +527,64 @@ column-given column rest x =
 
 module _ (column : ℕ) (bytes : List ℕ) where
   pub single-sample-refused : (plan : Plan)
-      → Reports 4 (Row 4 (25 < column) (HeldRows reducedSingles (singleEntry plan) (ItemRows column bytes plan)))
-      (singleSample column plan bytes)
+      → Reports 4 (Row 4 (25 < column) (ItemRows column bytes plan)) (singleSample column plan bytes)
   unfolding singleSample
-  single-sample-refused plan =
-      column-reports column (held-reports reducedSingles (singleEntry plan) (items-refused column bytes plan))
+  single-sample-refused plan = column-reports column (items-refused column bytes plan)
 
   pub single-sample-given : (plan : Plan) (v : Verdict)
-      → (singleSample column plan bytes ≡ given v)
-      ↔ ((column ≤ 25) × (couldHold reducedSingles (singleEntry plan) ≡ true) × ItemsJudged column bytes plan v)
+      → (singleSample column plan bytes ≡ given v) ↔ ((column ≤ 25) × ItemsJudged column bytes plan v)
   unfolding singleSample
   single-sample-given plan v = (
-    λ g.
-        let c = column-given column _ v .0 g in
-        let h = held-given reducedSingles (singleEntry plan) _ v .0 (c .1) in
-        (c .0, h .0, items-given column bytes plan v .0 (h .1)),
-    λ s.
-        column-given column _ v .1
-        (s .0, held-given reducedSingles (singleEntry plan) _ v .1 (s .1, items-given column bytes plan v .1 (s .2))),
+    λ g. let c = column-given column _ v .0 g in (c .0, items-given column bytes plan v .0 (c .1)),
+    λ s. column-given column _ v .1 (s .0, items-given column bytes plan v .1 (s .1)),
   )
 
   pub staged-sample-refused : (plan : StagedPlan)
       → Reports 4
-      (Row 4 (25 < column)
-      (HeldRows staged (stagedEntry plan)
-      (SampleRows (EndsAtStage column plan bytes) (MeetsInStage column plan bytes))))
+      (Row 4 (25 < column) (SampleRows (EndsAtStage column plan bytes) (MeetsInStage column plan bytes)))
       (stagedSample column plan bytes)
   unfolding stagedSample
-  staged-sample-refused plan =
-      column-reports column (held-reports staged (stagedEntry plan) (stages-report column plan bytes))
+  staged-sample-refused plan = column-reports column (stages-report column plan bytes)
 
   pub staged-sample-given : (plan : StagedPlan) (v : Verdict)
-      → (stagedSample column plan bytes ≡ given v)
-      ↔ ((column ≤ 25) × (couldHold staged (stagedEntry plan) ≡ true) × EndsAtStage column plan bytes v)
+      → (stagedSample column plan bytes ≡ given v) ↔ ((column ≤ 25) × EndsAtStage column plan bytes v)
   unfolding stagedSample
   staged-sample-given plan v = (
-    λ g.
-        let c = column-given column _ v .0 g in
-        let h = held-given staged (stagedEntry plan) _ v .0 (c .1) in
-        (c .0, h .0, stages-decided column plan bytes v .0 (h .1)),
-    λ s.
-        column-given column _ v .1
-        (s .0, held-given staged (stagedEntry plan) _ v .1 (s .1, stages-decided column plan bytes v .1 (s .2))),
+    λ g. let c = column-given column _ v .0 g in (c .0, stages-decided column plan bytes v .0 (c .1)),
+    λ s. column-given column _ v .1 (s .0, stages-decided column plan bytes v .1 (s .1)),
   )
 
 module _ (bytes : List ℕ) where
   pub sequential-sample-refused : (plan : SequentialPlan)
-      → Reports 6
-      (HeldRows sequential (sequentialEntry plan) (SampleRows (EndsAtItem plan bytes) (MeetsItem plan bytes)))
-      (sequentialSample plan bytes)
-  unfolding sequentialSample
-  sequential-sample-refused plan =
-      held-reports sequential (sequentialEntry plan) (sequence-reports plan bytes)
+      → Reports 7 (SampleRows (EndsAtItem plan bytes) (MeetsItem plan bytes)) (judgeSequence plan bytes)
+  sequential-sample-refused plan = sequence-reports plan bytes
 
   pub sequential-sample-given : (plan : SequentialPlan) (v : Verdict)
-      → (sequentialSample plan bytes ≡ given v)
-      ↔ ((couldHold sequential (sequentialEntry plan) ≡ true) × EndsAtItem plan bytes v)
-  unfolding sequentialSample
-  sequential-sample-given plan v = (
-    λ g.
-        let h = held-given sequential (sequentialEntry plan) _ v .0 g in
-        (h .0, sequence-decided plan bytes v .0 (h .1)),
-    λ s. held-given sequential (sequentialEntry plan) _ v .1 (s .0, sequence-decided plan bytes v .1 (s .1)),
-  )
+      → (judgeSequence plan bytes ≡ given v) ↔ EndsAtItem plan bytes v
+  sequential-sample-given plan v = sequence-decided plan bytes v
 
   module _ (upper : Bool) (limit : ℤ) (plan : VariablesPlan) where
+    abbrev pub couldBe : Bool
+    couldBe = couldHold variables (variablesEntry plan)
+
     pub variables-sample-refused :
-        Reports 6 (HeldRows variables (variablesEntry plan) (ReadingRows upper limit bytes plan))
+        Reports 6 (Row 6 (couldBe ≡ false) (ReadingRows upper limit bytes plan))
         (variablesSample upper plan limit bytes)
     unfolding variablesSample
-    variables-sample-refused = held-reports variables (variablesEntry plan) (readings-refused upper limit bytes plan)
+    variables-sample-refused =
+        check 6 (not couldBe) (not-true couldBe) (λ f. ap not f) (omega arith)
+        (readings-refused upper limit bytes plan)
 
-    pub variables-sample-given : (v : Gauged)
+    pub variables-sample-given : (v : Verdict)
         → (variablesSample upper plan limit bytes ≡ given v)
-        ↔ ((couldHold variables (variablesEntry plan) ≡ true) × ReadingsJudged upper limit bytes plan v)
+        ↔ ((couldBe ≡ true) × ReadingsJudged upper limit bytes plan v)
     unfolding variablesSample
-    variables-sample-given v = (
-      λ g.
-          let h = held-given variables (variablesEntry plan) _ v .0 g in
-          (h .0, readings-given upper limit bytes plan v .0 (h .1)),
-      λ s. held-given variables (variablesEntry plan) _ v .1 (s .0, readings-given upper limit bytes plan v .1 (s .1)),
-    )
+    variables-sample-given v =
+        let iff = first-given (unlessHeld variables (variablesEntry plan) ∷ []) (judgeReadings upper plan limit bytes) v
+        in (
+          λ g. (not-false couldBe (iff .0 g .0 .0), readings-given upper limit bytes plan v .0 (iff .0 g .1)),
+          λ s. iff .1 ((ap not (s .0), tt), readings-given upper limit bytes plan v .1 (s .1)),
+        )
 
 -- 9. The severities of a history: its first bad byte, with its place; then 11 for a buffer shorter than the history.
 module _ (w : Work) (h : List ℕ) where
