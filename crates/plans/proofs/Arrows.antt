@@ -12,7 +12,7 @@ use Rattle.rules.specs.Single.{down, up, number, boxAt, Landing, landed, landin
 use Rattle.rules.specs.Single.{sizes, cutTo, planAt}
 use Rattle.rules.proofs.Bounded.{by-le, never}
 use Rattle.rules.proofs.Tables.{up-positive, landing-box}
-use Rattle.rules.proofs.Landing.{landing-number, landing-down, landing-up, landing-last-down, landing-last-up}
+use Rattle.rules.proofs.Landing.{landing-number, landing-down, landing-up}
 use Rattle.plans.specs.Paper.{boxIn, arrowTo}
 
 pub cell-number : (cell : ℕ) → cell < 254 → boxIn cell ≡ number cell
@@ -76,12 +76,6 @@ module _ (severity column letter cell : ℕ) (e : boxIn cell ≡ boxAt severity 
         by-le cell 254
         (λ p. rw (arrow-down cell letter (omega arith)) (sym (landing-down severity column letter left l (at-down p))))
         (λ p. rw (arrow-up cell letter (λ q. omega arith)) (sym (landing-up severity column letter left l (at-up p))))
-
-    pub goes-last : landed (arrowTo cell letter) 0 ≡ landing 0 severity column letter
-    goes-last =
-        by-le cell 254
-        (λ p. rw (arrow-down cell letter (omega arith)) (sym (landing-last-down severity column letter (at-down p))))
-        (λ p. rw (arrow-up cell letter (λ q. omega arith)) (sym (landing-last-up severity column letter (at-up p))))
 
 -- the plan at the letter where the arrows end: its Ac is read from the box there
 pub plan-there : (severity size column letter at n cell : ℕ) → severity < 2 → column < 26 → letter < 16

@@ -255,7 +255,7 @@ fn arrow_to(arrow: u8, letter: u8) -> u8
     letter - 1
 }
 
-// The letter where the arrows from a letter end, with so many arrows left after the first.
+// The letter where the arrows from a letter end, with so many arrows left.
 fn land(severity: u32, column: u32, letter: u8, left: u8) -> u8
     requires { ⌜ (severity < 2) × (column < 26) × (letter + left < 200) ⌝ }
     ensures { λ r. ⌜ r ≡ landing left severity column letter .letter ⌝ }
@@ -264,11 +264,10 @@ fn land(severity: u32, column: u32, letter: u8, left: u8) -> u8
     if cell < DOWN {
         return letter;
     }
-    let next = arrow_to(cell, letter);
     if left == 0 {
-        return next;
+        return letter;
     }
-    land(severity, column, next, left - 1)
+    land(severity, column, arrow_to(cell, letter), left - 1)
 }
 
 // The size of a sample from a lot: a size at or above the lot is cut to it.

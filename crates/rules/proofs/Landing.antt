@@ -1,7 +1,7 @@
 -- One arrow of a landing.
 -- Assumes nothing.
 use Prim.Native.Nat.{ℕ, zero, suc, _+_, _-_, _<_}
-use mathlib.Core.Path.{_≡_}
+use mathlib.Core.Path.{_≡_, refl}
 use native.Mathlib.Numerals.{sub-one}
 use native.Mathlib.Omega.{arith}
 use Rattle.rules.specs.Single.{down, up, number, landed, boxAt, landing}
@@ -27,11 +27,7 @@ module _ (severity column letter : ℕ) where
   landing-up zero h e = absurd (omega arith)
   landing-up (suc left) h e = rw (e, sub-one (suc left))
 
-  -- the last arrow, which no letter of Table 1 has
-  pub landing-last-down : boxAt severity column letter ≡ down → landing 0 severity column letter ≡ landed (letter + 1) 0
+  -- with no arrow left the box is read where it stands
+  pub landing-last : landing 0 severity column letter .letter ≡ letter
   unfolding landing
-  landing-last-down e = rw e
-
-  pub landing-last-up : boxAt severity column letter ≡ up → landing 0 severity column letter ≡ landed (letter - 1) 0
-  unfolding landing
-  landing-last-up e = rw e
+  landing-last = refl

@@ -8,7 +8,7 @@ use native.Mathlib.Omega.{arith}
 use lib.Dec.{T, leb, leb→le, le→leb, eqb, eqb→eq, ltb, ltb→lt}
 use Rattle.rules.specs.Codes.{normal, tightened, letterA, letterR, letterOf, tableOne, rowOf}
 use Rattle.rules.specs.Single.{Box, down, up, number, boxAt, Landing, landed, follow, landing, arrows}
-use Rattle.rules.specs.Single.{landingOf, tighterAc}
+use Rattle.rules.specs.Single.{landingOf, acOf, tighterAc}
 use Rattle.rules.proofs.Bounded.{implies, implies-at, all, all-at₂, all-at₃, each-at, never}
 
 -- Table 1 has no letter past R.
@@ -84,7 +84,7 @@ unfolding count countAt landing
 led zero severity column letter h = go (boxAt severity column letter) refl h
   where
     go : (b : Box) → boxAt severity column letter ≡ b → countAt b letter (λ next. 0) ≤ 0
-        → Leads severity column letter (countAt b letter (λ next. 0)) (follow b letter (λ next. landed next 0))
+        → Leads severity column letter (countAt b letter (λ next. 0)) (landed letter (acOf b))
     go down e h = absurd (omega arith)
     go up e h = absurd (omega arith)
     go (number ac) e h = there letter ac e
@@ -113,8 +113,8 @@ unfolding count countAt landing boxAt
 fifteen-needed = led 15 tightened 0 letterA (omega arith)
 
 module _ (severity column letter : ℕ) (s : severity < 2) (c : column < 26) (l : letter < 16) where
-  -- From the letters A to R at most 15 arrows lead to the landing, in both tables, so that what stands in for more
-  -- arrows is never met ..
+  -- From the letters A to R at most 15 arrows lead to the landing, in both tables, so that the box where none is left
+  -- is never an arrow ..
   pub landing-led : (k : ℕ) × (k ≤ 15) × Leads severity column letter k (landingOf severity column letter)
   unfolding inTime
   landing-led =

@@ -62,6 +62,12 @@ rowAt severity s = getD (getD masterTable severity []) s (all up)
 abbrev pub boxOf : Row → ℕ → Box
 boxOf row letter = cond (leb (row .first) letter && leb letter (row .last)) (row .there) (row .elsewhere)
 
+-- the Ac of a box; an arrow has none
+abbrev pub acOf : Box → ℕ
+acOf down = 0
+acOf up = 0
+acOf (number ac) = ac
+
 -- "Let s be letter plus column."
 unfoldable pub boxAt : ℕ → ℕ → ℕ → Box
 boxAt severity column letter = boxOf (rowAt severity (letter + column)) letter
@@ -81,9 +87,9 @@ follow up letter next = next (letter - 1)
 follow (number ac) letter next = landed letter ac
 
 -- "follow arrows until a box holds a number, and that letter gives the size": from a letter, with so many arrows left;
--- from the letters A to R they end in time (proofs/Tables)
+-- where none is left, the box there is read. From the letters A to R it holds a number then (proofs/Tables).
 unfoldable pub landing : ℕ → ℕ → ℕ → ℕ → Landing
-landing zero severity column letter = follow (boxAt severity column letter) letter (λ next. landed next 0)
+landing zero severity column letter = landed letter (acOf (boxAt severity column letter))
 landing (suc left) severity column letter = follow (boxAt severity column letter) letter (landing left severity column)
 
 -- at most 15 arrows
@@ -112,11 +118,6 @@ tablePlan severity size level column = planAt size (landingOf severity column (l
 
 -- "the Ac one column tighter at the letter that gives the size", normal inspection; where it is asked for, at Ac 2 or
 -- more, the box holds a number (proofs/Tables)
-abbrev pub acOf : Box → ℕ
-acOf down = 0
-acOf up = 0
-acOf (number ac) = ac
-
 unfoldable pub tighterAc : ℕ → ℕ → ℕ
 tighterAc letter column = acOf (boxAt normal (column - 1) letter)
 

@@ -7,7 +7,8 @@ use borrow.Fn.Kinds.{In}
 use borrow.Fn.PlainCycle.{Measures, is, falls, and}
 use native.Mathlib.Omega.{arith}
 use Rattle.rules.specs.Single.{landing}
-use Rattle.plans.proofs.Arrows.{same-letter, lands, goes-up, goes, goes-last, arrow-near}
+use Rattle.rules.proofs.Landing.{landing-last}
+use Rattle.plans.proofs.Arrows.{same-letter, lands, goes-up, goes, arrow-near}
 use Rattle.plans.proofs.land.Reads as land
 use Rattle.plans.proofs.land.Kinds as land-kinds
 use Rattle.plans.proofs.+land.Lts-land as land-lts
@@ -41,24 +42,21 @@ module _ (t : ℕ) where
       same-letter
       (lands (a .severity) (a .column) (a .letter) (box .result) (box .ensures) (a .left) (c .if1 .taken))
 
+  returns-2 : land-lts.Need-returns-2 (calls t) (land-at t) land.Post
+  returns-2 c =
+      let a = c .before .before .before .args in
+      sym
+      (ap (λ (k : ℕ). landing k (a .severity) (a .column) (a .letter) .letter) (c .if2 .taken)
+      ∙ landing-last (a .severity) (a .column) (a .letter))
+
   arrow-to-requires : land-lts.Need-arrow-to-requires (calls t) (land-at t) land.Post
   arrow-to-requires c κs =
-      let a = c .before .before .args in
-      let box = c .before .box-at in (
-        goes-up (a .severity) (a .column) (a .letter) (box .result) (box .ensures) (c .if1 .left) (omega arith)
+      let a = c .before .before .before .args in
+      let box = c .before .before .box-at in (
+        goes-up (a .severity) (a .column) (a .letter) (box .result) (box .ensures) (c .before .if1 .left) (omega arith)
             (omega arith) (omega arith),
         omega arith,
       )
-
-  returns-2 : land-lts.Need-returns-2 (calls t) (land-at t) land.Post
-  returns-2 c =
-      let a = c .before .before .before .before .args in
-      let box = c .before .before .before .box-at in
-      c .before .arrow-to .ensures
-      ∙ same-letter
-      (goes-last (a .severity) (a .column) (a .letter) (box .result) (box .ensures)
-      (c .before .before .if1 .left) (omega arith)
-      ∙ ap (λ (k : ℕ). landing k (a .severity) (a .column) (a .letter)) (sym (c .if2 .taken)))
 
   sub-land : land-lts.Need-sub-land (calls t) (land-at t) land.Post
   sub-land c = search needs
@@ -67,7 +65,7 @@ module _ (t : ℕ) where
   land-requires c κs =
       let a = c .before .before .before .before .args in
       let near = arrow-near (c .before .before .before .box-at .result) (a .letter) (c .before .before .if1 .left) in
-      omega (arith, c .before .arrow-to .ensures)
+      omega (arith, c .arrow-to .ensures)
 
   returns-3 : land-lts.Need-returns-3 (calls t) (land-at t) land.Post
   returns-3 c =
@@ -75,7 +73,7 @@ module _ (t : ℕ) where
       let box = c .before .before .before .before .box-at in
       c .land .ensures
       ∙ same-letter
-      (ap (landing (a .left - 1) (a .severity) (a .column)) (c .before .before .arrow-to .ensures)
+      (ap (landing (a .left - 1) (a .severity) (a .column)) (c .before .arrow-to .ensures)
       ∙ goes (a .severity) (a .column) (a .letter) (box .result) (box .ensures)
       (c .before .before .before .if1 .left) (omega arith) (a .left) (omega arith))
 
@@ -83,5 +81,5 @@ pub +land-spec : {M : Type 1} → statement M
 +land-spec =
     close μ-land
     λ t.
-    land-lts.spec (calls t) (land-at t) land.Post (box-at-requires t) (returns t) (arrow-to-requires t)
-    (returns-2 t) (sub-land t) (land-requires t) (returns-3 t)
+    land-lts.spec (calls t) (land-at t) land.Post (box-at-requires t) (returns t) (returns-2 t)
+    (arrow-to-requires t) (sub-land t) (land-requires t) (returns-3 t)
