@@ -6,9 +6,13 @@ ghost use Rattle.entry.specs.Paper.{variablesPaper};
 
 // The kinds of section, in their order in the book.
 pub const KINDS: usize = 4;
+
 pub const REDUCED: usize = 0;
+
 pub const STAGED: usize = 1;
+
 pub const SEQUENTIAL: usize = 2;
+
 pub const VARIABLES: usize = 3;
 
 // A reduced single, before it is cut to the lot.

@@ -19,6 +19,7 @@ pub mod HeldStaged
 pub mod Histories
 pub mod Items
 pub mod Landing
+pub mod Leaving
 pub mod LineForms
 pub mod LookUp
 pub mod Numbers

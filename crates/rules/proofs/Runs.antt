@@ -7,13 +7,16 @@ use mathlib.Core.Bool.{Bool, true, false, cond, not}
 use mathlib.Core.List.{List, [], _∷_, _++_, map}
 use native.Mathlib.Omega.{arith}
 use mathlib.Core.Logic.{_⊎_, inl, inr}
+use borrow.Author.Tests.{le-leb}
 use lib.IntN.{ℤ}
 use lib.ListN.{length}
 use Rattle.rules.specs.Refusals.{Answer, refused, given, andThen, unknownForm}
+use Rattle.rules.specs.Codes.{tightened, stopped}
 use Rattle.rules.specs.Verdict.{Verdict, Judged}
 use Rattle.rules.specs.Severity.{sampled, Lot, addThree, addTwo, scoreZero, notAccepted, Event, lot}
 use Rattle.rules.specs.Severity.{resubmitted, steadyIs, permissionIs, corrective, unknown, Record, fresh, step}
-use Rattle.rules.specs.Severity.{inRange}
+use Rattle.rules.specs.Severity.{inRange, started, onCorrective}
+use Rattle.rules.specs.Reading.{severityRead, recordRead}
 use Rattle.rules.specs.History.{Work, eventOf, eventIn, byteOf, placed, afterFrom, after}
 use Rattle.rules.specs.Book.{Checked, sound, brokenAt, checkBook, onSound}
 use Rattle.rules.specs.Entries.{Asked, Closed, Offered, askedOn, eventFor, singleCounts, stagedCounts}
@@ -23,26 +26,12 @@ use Rattle.rules.specs.Entries.{next}
 use Rattle.rules.specs.Runs.{Call, single, staged, total, byte, sequential, variables, Entered, enters}
 use Rattle.rules.specs.Runs.{nothing, enteredBy, enteredAs, entered, isResubmission, withoutResubmissions}
 use Rattle.rules.specs.Runs.{recordBy, eventsBy, ran}
-use Rattle.rules.specs.Runs.{eventsRan, bytesRan}
+use Rattle.rules.specs.Runs.{eventsRan, bytesRan, event, eventsRead, Corrects, Idle, Records, ClosesLot, ByCall}
 use Rattle.rules.proofs.Append.{and-one-event}
-use Rattle.rules.proofs.Range.{step-range}
+use Rattle.rules.proofs.Agreement.{agree, severity-agrees}
+use Rattle.rules.proofs.Range.{step-range, fresh-range, after-range}
 use Rattle.rules.proofs.Resubmitted.{is-resubmitted, resubmitted-step}
 use Rattle.rules.proofs.Bytes.{lot-byte, corrective-byte}
-
--- A call that leaves the record and the events as they are.
-abbrev pub Idle : Work → List Call → Call → Type 0
-Idle w cs call = (ran w (call ∷ cs) ≡ ran w cs) × (eventsRan w (call ∷ cs) ≡ eventsRan w cs)
-
--- A call and its answer: given, the next record and the event of what is given are recorded; refused, nothing is.
-pub record Records {A : Type 0} (w : Work) (cs : List Call) (call : Call) (answer : Answer A) (after : A → Record)
-    (event : A → Event) : Type 0 where
-  pub recorded : (a : A) → answer ≡ given a
-      → (ran w (call ∷ cs) ≡ after a) × (eventsRan w (call ∷ cs) ≡ event a ∷ eventsRan w cs)
-  pub dropped : (n k : ℕ) → answer ≡ refused n k → Idle w cs call
-
--- A lot closed is recorded as the event that it tells.
-abbrev pub ClosesLot : {P : Type 0} → Work → List Call → Call → Answer (Closed P) → Type 0
-ClosesLot w cs call answer = Records w cs call answer (λ c. c .recordAfter) (λ c. c .event)
 
 module _ (w : Work) (cs : List Call) where
   call-idle : (call : Call) → entered w (ran w cs) call ≡ nothing → Idle w cs call
@@ -81,6 +70,15 @@ module _ (w : Work) (cs : List Call) where
   byte-records b = record {
     recorded = λ t e. call-entered (byte b) (eventIn w b) t (ap (enteredAs (eventIn w b)) e);
     dropped = λ n k e. call-idle (byte b) (ap (enteredAs (eventIn w b)) e);
+  }
+
+  -- an event handed to close_lot
+  pub event-records : (e : Event)
+      → Records w cs (event e) (onRecord (ran w cs) (step (ran w cs) e)) (λ t. t) (λ t. e)
+  unfolding entered
+  event-records e = record {
+    recorded = λ t q. call-entered (event e) e t (ap (enteredAs e) q);
+    dropped = λ n k q. call-idle (event e) (ap (enteredAs e) q);
   }
 
   -- "Sequential and variables verdicts don't enter the record"
@@ -137,6 +135,7 @@ Stands P w (single o book sample) = (l : Lot) → P (eventFor o l)
 Stands P w (staged o book sample) = (l : Lot) → P (eventFor o l)
 Stands P w (total o d) = (l : Lot) → P (eventFor o l)
 Stands P w (byte b) = P (eventIn w b)
+Stands P w (event e) = P e
 Stands P w (sequential q book sample) = Unit {0}
 Stands P w (variables upper q book limit readings) = Unit {0}
 
@@ -148,6 +147,7 @@ call-enters P w r (staged o book sample) p =
     sound-enters P r o (stagedCounts r o) p (checkBook book) (judgeStaged (askedOn r o) book sample)
 call-enters P w r (total o d) p = judged-enters P r o (singleCounts r o) p (judgeTotal (askedOn r o) d)
 call-enters P w r (byte b) p = entered-as P r (eventIn w b) p
+call-enters P w r (event e) p = entered-as P r e p
 call-enters P w r (sequential q book sample) p = tt
 call-enters P w r (variables upper q book limit readings) p = tt
 
@@ -156,6 +156,7 @@ anything w (single o book sample) = λ l. tt
 anything w (staged o book sample) = λ l. tt
 anything w (total o d) = λ l. tt
 anything w (byte b) = tt
+anything w (event e) = tt
 anything w (sequential q book sample) = tt
 anything w (variables upper q book limit readings) = tt
 
@@ -218,6 +219,7 @@ resubmission w (single o book sample) h = λ l. rw h
 resubmission w (staged o book sample) h = λ l. rw h
 resubmission w (total o d) h = λ l. rw h
 resubmission w (byte b) h = is-resubmitted (eventIn w b) h
+resubmission w (event e) h = is-resubmitted e h
 resubmission w (sequential q book sample) h = tt
 resubmission w (variables upper q book limit readings) h = tt
 
@@ -252,30 +254,49 @@ not-corrective o l h = go (o .again) (ap byteOf h)
     go true h = omega arith
     go false h = omega (arith, lot-byte l)
 
-corrective-call : (w : Work) (c : Call) → Stands (λ e. e ≡ corrective → c ≡ byte 9) w c
+corrective-call : (w : Work) (c : Call) → Stands (λ e. e ≡ corrective → Corrects c) w c
 corrective-call w (single o book sample) = λ l h. absurd (not-corrective o l h)
 corrective-call w (staged o book sample) = λ l h. absurd (not-corrective o l h)
 corrective-call w (total o d) = λ l h. absurd (not-corrective o l h)
-corrective-call w (byte b) = λ h. ap byte (corrective-byte w b h)
+corrective-call w (byte b) = λ h. inl (ap byte (corrective-byte w b h))
+corrective-call w (event e) = λ h. inr (ap event h)
 corrective-call w (sequential q book sample) = tt
 corrective-call w (variables upper q book limit readings) = tt
 
--- One call more enters nothing, or one event; byte 9 alone enters the corrective order.
-abbrev pub OneCall : Work → Call → List Call → Type 0
-OneCall w c cs =
-    (ran w (c ∷ cs) ≡ ran w cs)
-    ⊎ ((e : Event) × (eventsRan w (c ∷ cs) ≡ e ∷ eventsRan w cs) × (e ≡ corrective → c ≡ byte 9))
-
-pub one-call : (w : Work) (c : Call) (cs : List Call) → OneCall w c cs
+-- One call more enters nothing, or one event; a corrective order alone enters that event.
+pub one-call : (w : Work) (c : Call) (cs : List Call) → ByCall w c cs (λ e s. e ≡ corrective → Corrects c)
 unfolding ran eventsRan
 one-call w c cs =
-    go (entered w (ran w cs) c) (call-enters (λ e. e ≡ corrective → c ≡ byte 9) w (ran w cs) c (corrective-call w c))
+    go (entered w (ran w cs) c) (call-enters (λ e. e ≡ corrective → Corrects c) w (ran w cs) c (corrective-call w c))
   where
-    go : (x : Entered) → Enters (λ e. e ≡ corrective → c ≡ byte 9) (ran w cs) x
-        → (recordBy (ran w cs) x ≡ ran w cs)
-        ⊎ ((e : Event) × (eventsBy (eventsRan w cs) x ≡ e ∷ eventsRan w cs) × (e ≡ corrective → c ≡ byte 9))
+    go : (x : Entered) → Enters (λ e. e ≡ corrective → Corrects c) (ran w cs) x
+        → ((recordBy (ran w cs) x ≡ ran w cs) × (eventsBy (eventsRan w cs) x ≡ eventsRan w cs))
+        ⊎ ((e : Event) × (eventsBy (eventsRan w cs) x ≡ e ∷ eventsRan w cs) × (e ≡ corrective → Corrects c))
     go (enters e t) s = inr (e, refl, s .1)
-    go nothing s = inl refl
+    go nothing s = inl (refl, refl)
+
+-- What holds of each event that a call enters, with the severity that the written reading then finds.
+pub by-call : (w : Work) (c : Call) (cs : List Call) (P : Event → ℕ → Type 0)
+    → ((e : Event) → P e (severityRead (w .permission) (e ∷ eventsRan w cs))) → ByCall w c cs P
+by-call w c cs P f = go (one-call w c cs)
+  where
+    go : ByCall w c cs (λ e s. e ≡ corrective → Corrects c) → ByCall w c cs P
+    go (inl q) = inl q
+    go (inr x) =
+        inr (
+          x .0,
+          x .1,
+          rw
+              (severity-agrees (w .permission) (eventsRan w (c ∷ cs)) (ran w (c ∷ cs)) (ran-agrees w (c ∷ cs)), x .1)
+              (f (x .0)),
+        )
+
+-- The events of a run, found from the calls and the written reading alone, are those of the fold.
+pub events-as-read : (w : Work) (cs : List Call) → eventsRead w cs ≡ eventsRan w cs
+unfolding eventsRead eventsRan
+events-as-read w [] = refl
+events-as-read w (c ∷ cs) =
+    rw (events-as-read w cs, ← agree (w .permission) (eventsRan w cs) (ran w cs) (ran-agrees w cs))
 
 -- A call on a record in range leaves a record in range.
 pub call-range : (w : Work) (r : Record) (c : Call) → inRange r ≡ true → inRange (recordBy r (entered w r c)) ≡ true
@@ -284,3 +305,25 @@ call-range w r c h = go (entered w r c) (call-enters (λ e. Unit {0}) w r c (any
     go : (x : Entered) → Enters (λ e. Unit {0}) r x → inRange (recordBy r x) ≡ true
     go (enters e t) s = step-range r e t h (s .0)
     go nothing s = h
+
+pub ran-range : (w : Work) (cs : List Call) → inRange (ran w cs) ≡ true
+ran-range w cs =
+    after-range (fresh (w .permission)) (eventsRan w cs) (ran w cs) (fresh-range (w .permission)) (ran-agrees w cs)
+
+-- A corrective order while stopped, typed or handed over, gives tightened.
+corrects : (r : Record) → inRange r ≡ true → r .severity ≡ stopped
+    → onRecord r (step r corrective) ≡ given (started tightened (r .steady) (r .permission))
+unfolding step onCorrective
+corrects r h s = rw (h, le-leb stopped (r .severity) (omega arith))
+
+pub ran-corrected : (w : Work) (c : Call) (cs : List Call) → Corrects c → ran w cs .severity ≡ stopped
+    → ran w (c ∷ cs) .severity ≡ tightened
+unfolding next eventIn eventOf
+ran-corrected w c cs (inl e) s =
+    rw e
+    (ap (λ (t : Record). t .severity)
+    (byte-records w cs 9 .recorded _ (corrects (ran w cs) (ran-range w cs) s) .0))
+ran-corrected w c cs (inr e) s =
+    rw e
+    (ap (λ (t : Record). t .severity)
+    (event-records w cs corrective .recorded _ (corrects (ran w cs) (ran-range w cs) s) .0))

@@ -17,15 +17,8 @@ use Rattle.rules.specs.Severity.{corrective, unknown, due}
 use Rattle.rules.specs.Reading.{steadyIn, permissionIn, notAcceptedIn, runOf, scoreOf, Stay, stayOf}
 use Rattle.rules.specs.Reading.{readSettled, readNormal, readTightened, readReduced, readLot, readOrder}
 use Rattle.rules.specs.Reading.{readCorrective, readEvent, stayAfter, severityRead, lotsWith, staysBy, staysIn}
-
--- every element of a list
-abbrev pub Every : {A : Type 0} → (A → Type 0) → List A → Type 0
-Every P [] = Unit {0}
-Every P (x ∷ xs) = P x × Every P xs
-
--- "at most 25 original lots and at most five not accepted"
-abbrev pub AtMost25 : Stay → Type 0
-AtMost25 y = y .severity ≡ tightened → (length (y .lots) ≤ 25) × (notAcceptedIn (y .lots) ≤ 5)
+use Rattle.rules.specs.Switching.{Every, AtMost25, originalLots, lotsOfAll, FirstIs, FirstIsNot}
+use Rattle.rules.specs.Switching.{NeighboursDiffer, Whole}
 
 -- what keeps a tightened stay so short: no five accepted in a row, no fifth not accepted
 abbrev pub Few : List Lot → Type 0
@@ -57,35 +50,6 @@ few-bound (permissionIs b) ls h = omega arith
 few-bound corrective ls h = omega arith
 few-bound unknown ls h = omega arith
 
--- the original lots of a history, newest first
-unfoldable pub originalLots : List Event → List Lot
-originalLots [] = []
-originalLots (lot o l ∷ es) = l ∷ originalLots es
-originalLots (resubmitted ∷ es) = originalLots es
-originalLots (steadyIs b ∷ es) = originalLots es
-originalLots (permissionIs b ∷ es) = originalLots es
-originalLots (corrective ∷ es) = originalLots es
-originalLots (unknown ∷ es) = originalLots es
-
--- the lots of stays, joined in order
-unfoldable pub lotsOfAll : List Stay → List Lot
-lotsOfAll [] = []
-lotsOfAll (y ∷ ys) = y .lots ++ lotsOfAll ys
-
--- the severity of the first stay
-abbrev pub FirstIs : ℕ → List Stay → Type 0
-FirstIs severity [] = ⊥
-FirstIs severity (y ∷ ys) = y .severity ≡ severity
-
-abbrev pub FirstIsNot : ℕ → List Stay → Type 0
-FirstIsNot severity [] = Unit {0}
-FirstIsNot severity (y ∷ ys) = severity ≡ y .severity → ⊥
-
--- each stay and the one before it
-abbrev pub NeighboursDiffer : List Stay → Type 0
-NeighboursDiffer [] = Unit {0}
-NeighboursDiffer (y ∷ ys) = FirstIsNot (y .severity) ys × NeighboursDiffer ys
-
 lots-joined : (e : Event) (es : List Event) (ls ms : List Lot) → ls ++ ms ≡ originalLots es
     → lotsWith e ls ++ ms ≡ originalLots (e ∷ es)
 unfolding originalLots
@@ -95,12 +59,6 @@ lots-joined (steadyIs b) es ls ms h = h
 lots-joined (permissionIs b) es ls ms h = h
 lots-joined corrective es ls ms h = h
 lots-joined unknown es ls ms h = h
-
--- these stays are the whole of the history, the present one of this severity
-pub record Whole (severity : ℕ) (es : List Event) (ys : List Stay) : Type 0 where
-  pub all-lots : lotsOfAll ys ≡ originalLots es
-  pub neighbours : NeighboursDiffer ys
-  pub first-present : FirstIs severity ys
 
 whole-on : (e : Event) (es : List Event) (t : ℕ) (y : Stay) (ys : List Stay)
     → lotsOfAll (y ∷ ys) ≡ originalLots es → NeighboursDiffer (y ∷ ys) → Whole t (e ∷ es) (staysBy e t (y ∷ ys))

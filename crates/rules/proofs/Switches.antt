@@ -16,6 +16,8 @@ use Rattle.rules.specs.Severity.{resubmitted, steadyIs, permissionIs, co
 use Rattle.rules.specs.Reading.{steadyIn, permissionIn, notAcceptedIn, runOf, pointsOf, scoreOf, Stay, stayOf}
 use Rattle.rules.specs.Reading.{readSettled, readNormal, readTightened, readLot, readOrder, readCorrective}
 use Rattle.rules.specs.Reading.{readEvent, stayAfter, severityRead, lotsWith, staysIn}
+use Rattle.rules.specs.Switching.{LastAccepted, ByLot, LeavesTightened, EndsReduced, LeavesReduced}
+use Rattle.rules.specs.Switching.{ReducedStarts}
 use Rattle.rules.proofs.Stays.{Few, run-not-accepted, present-stay, tightened-few}
 
 stopped-event : (e : Event) (st pe : Bool) (s : ℕ) (ls : List Lot) → s ≡ stopped
@@ -50,10 +52,6 @@ points-run (addTwo ∷ ls) = omega (arith, points-run ls)
 points-run (scoreZero ∷ ls) = omega arith
 points-run (notAccepted ∷ ls) = omega arith
 
--- the last k of these lots were all accepted
-abbrev pub LastAccepted : ℕ → List Lot → Type 0
-LastAccepted k ls = (length (take k ls) ≡ k) × (notAcceptedIn (take k ls) ≡ 0)
-
 last-accepted : (k : ℕ) (ls : List Lot) → k ≤ runOf ls → LastAccepted k ls
 unfolding runOf notAcceptedIn
 last-accepted zero ls h = (refl, refl)
@@ -71,7 +69,7 @@ abbrev Turns : ℕ → List Lot → Bool → Bool → Type 0
 Turns s ls st pe = (s ≡ normal) × (st ≡ true) × (pe ≡ true) × (10 ≤ runOf ls)
 
 -- "score 30, steady and permission all standing"
-due-all : (score : ℕ) (st pe : Bool) → due score st pe ≡ true → (30 ≤ score) × (st ≡ true) × (pe ≡ true)
+pub due-all : (score : ℕ) (st pe : Bool) → due score st pe ≡ true → (30 ≤ score) × (st ≡ true) × (pe ≡ true)
 due-all score st pe h =
     let a = and-eq-true-iff (leb 30 score) (st && pe) .0 h in
     let b = and-eq-true-iff st pe .0 (a .1) in
@@ -148,17 +146,6 @@ starts-stay : (start : Bool) (e : Event) (es : List Event) (s t : ℕ) (ls : Lis
 unfolding staysIn
 starts-stay start e es s t ls ys h n q = rw (q, h, ne-eqb s t n)
 
--- What stands when reduced starts by an event: it was normal, steady and permission stand, and the last ten original
--- lots of that normal stay, the history's second newest now, were all accepted.
-pub record ReducedStarts (start : Bool) (e : Event) (es : List Event) : Type 0 where
-  pub was-normal : severityRead start es ≡ normal
-  pub steady-stands : steadyIn (e ∷ es) ≡ true
-  pub permission-stands : permissionIn start (e ∷ es) ≡ true
-  pub lots : List Lot
-  pub earlier : List Stay
-  pub that-stay : staysIn start (e ∷ es) ≡ stayOf reduced [] ∷ stayOf normal lots ∷ earlier
-  pub ten-accepted : LastAccepted 10 lots
-
 pub reduced-starts : (start : Bool) (e : Event) (es : List Event) → (severityRead start es ≡ reduced → ⊥)
     → severityRead start (e ∷ es) ≡ reduced → ReducedStarts start e es
 reduced-starts start e es n h =
@@ -189,22 +176,6 @@ run-last (suc k) (l ∷ ls) h = go (accepted l) h (λ g. run-last k ls g)
         → (LastAccepted k ls → k ≤ runOf ls) → suc k ≤ cond d (suc (runOf ls)) 0
     go true h ih = omega (arith, ih (omega arith, h .1))
     go false h ih = absurd (omega arith)
-
--- An original lot, with what it and the lots of its stay are then.
-abbrev pub ByLot : (Lot → List Lot → Type 0) → Event → List Lot → Type 0
-ByLot P (lot o l) ls = P l (l ∷ ls)
-ByLot P resubmitted ls = ⊥
-ByLot P (steadyIs b) ls = ⊥
-ByLot P (permissionIs b) ls = ⊥
-ByLot P corrective ls = ⊥
-ByLot P unknown ls = ⊥
-
--- How an event leaves tightened, where the stay's lots are ls and the severity is then s: for normal exactly by the
--- fifth accepted in a row, for stopped exactly by the fifth not accepted.
-pub record LeavesTightened (e : Event) (ls : List Lot) (s : ℕ) : Type 0 where
-  pub to-normal : (s ≡ normal) ↔ ByLot (λ l lots. LastAccepted 5 lots) e ls
-  pub to-stopped : (s ≡ stopped) ↔ ByLot (λ l lots. (accepted l ≡ false) × (notAcceptedIn lots ≡ 5)) e ls
-  pub else-stays : (s ≡ normal → ⊥) → (s ≡ stopped → ⊥) → s ≡ tightened
 
 module _ (o : Origin) (l : Lot) (ls : List Lot) (few : Few ls) where
   lot-leaves : LeavesTightened (lot o l) ls (readTightened l ls .severity)
@@ -283,19 +254,6 @@ unfolding stayAfter
 tightened-left start e es h =
     tightened-event e (steadyIn (e ∷ es)) (permissionIn start (e ∷ es)) (severityRead start es)
     (stayAfter start es .lots) h (tightened-few start es h)
-
--- "a lot not accepted, steady withdrawn or permission withdrawn"
-abbrev pub EndsReduced : Event → Type 0
-EndsReduced (lot o l) = accepted l ≡ false
-EndsReduced resubmitted = ⊥
-EndsReduced (steadyIs b) = b ≡ false
-EndsReduced (permissionIs b) = b ≡ false
-EndsReduced corrective = ⊥
-EndsReduced unknown = ⊥
-
--- How an event leaves reduced, where the severity is then s: for normal, exactly by these.
-abbrev pub LeavesReduced : Type 0 → ℕ → Type 0
-LeavesReduced Ends s = ((s ≡ normal) ↔ Ends) × ((s ≡ normal → ⊥) → s ≡ reduced)
 
 reduced-unless : (b : Bool) (ls : List Lot)
     → LeavesReduced (b ≡ false) (cond b (stayOf reduced ls) (stayOf normal []) .severity)

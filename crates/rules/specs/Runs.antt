@@ -1,22 +1,26 @@
 -- What a bench really does: a run of calls, the record that they leave, and the history bytes that they stand for.
 -- Newest first. Definitions only.
 use Prim.Native.Nat.{ℕ}
+use mathlib.Core.Path.{_≡_}
 use mathlib.Core.Bool.{Bool, false, cond}
 use mathlib.Core.List.{List, [], _∷_, map}
+use mathlib.Core.Logic.{_⊎_}
 use lib.IntN.{ℤ}
 use Rattle.rules.specs.Refusals.{Answer, refused, given}
-use Rattle.rules.specs.Severity.{Event, Record, fresh}
-use Rattle.rules.specs.Reading.{isResubmitted}
+use Rattle.rules.specs.Severity.{Event, corrective, Record, fresh, step}
+use Rattle.rules.specs.Reading.{isResubmitted, recordRead}
 use Rattle.rules.specs.History.{Work, eventIn, byteOf}
 use Rattle.rules.specs.Entries.{Asked, Offered, Closed, closeSingle, closeStaged, closeTotal, next}
+use Rattle.rules.specs.Entries.{onRecord}
 
--- A call: a lot closed from its sample, or by its total; a history byte, which is an order or a lot; a sequential or
--- variables verdict in between.
+-- A call: a lot closed from its sample, or by its total; a history byte, which is an order or a lot; an event handed to
+-- close_lot; a sequential or variables verdict in between.
 pub data Call : Type 0 where
   single : Offered → List ℕ → List ℕ → Call
   staged : Offered → List ℕ → List ℕ → Call
   total : Offered → ℕ → Call
   byte : ℕ → Call
+  event : Event → Call
   sequential : Asked → List ℕ → List ℕ → Call
   variables : Bool → Asked → List ℕ → ℤ → List ℕ → Call
 
@@ -39,6 +43,7 @@ entered w r (single o book sample) = enteredBy (closeSingle r o book sample)
 entered w r (staged o book sample) = enteredBy (closeStaged r o book sample)
 entered w r (total o d) = enteredBy (closeTotal r o d)
 entered w r (byte b) = enteredAs (eventIn w b) (next w r b)
+entered w r (event e) = enteredAs e (onRecord r (step r e))
 entered w r (sequential q book sample) = nothing
 entered w r (variables upper q book limit readings) = nothing
 
@@ -48,6 +53,7 @@ isResubmission w (single o book sample) = o .again
 isResubmission w (staged o book sample) = o .again
 isResubmission w (total o d) = o .again
 isResubmission w (byte b) = isResubmitted (eventIn w b)
+isResubmission w (event e) = isResubmitted e
 isResubmission w (sequential q book sample) = false
 isResubmission w (variables upper q book limit readings) = false
 
@@ -77,3 +83,34 @@ eventsRan w (c ∷ cs) = eventsBy (eventsRan w cs) (entered w (ran w cs) c)
 -- the bytes that the calls of a run stand for
 abbrev pub bytesRan : Work → List Call → List ℕ
 bytesRan w cs = map byteOf (eventsRan w cs)
+
+-- the same from the calls and the written reading alone: each call is made on the record that the reading finds
+unfoldable pub eventsRead : Work → List Call → List Event
+eventsRead w [] = []
+eventsRead w (c ∷ cs) =
+    eventsBy (eventsRead w cs) (entered w (recordRead (w .permission) (eventsRead w cs)) c)
+
+-- a call that is a corrective order
+abbrev pub Corrects : Call → Type 0
+Corrects c = (c ≡ byte 9) ⊎ (c ≡ event corrective)
+
+-- A call that leaves the record and the events as they are.
+abbrev pub Idle : Work → List Call → Call → Type 0
+Idle w cs call = (ran w (call ∷ cs) ≡ ran w cs) × (eventsRan w (call ∷ cs) ≡ eventsRan w cs)
+
+-- A call and its answer: given, the next record and the event of what is given are recorded; refused, nothing is.
+pub record Records {A : Type 0} (w : Work) (cs : List Call) (call : Call) (answer : Answer A) (after : A → Record)
+    (told : A → Event) : Type 0 where
+  pub recorded : (a : A) → answer ≡ given a
+      → (ran w (call ∷ cs) ≡ after a) × (eventsRan w (call ∷ cs) ≡ told a ∷ eventsRan w cs)
+  pub dropped : (n k : ℕ) → answer ≡ refused n k → Idle w cs call
+
+-- A lot closed is recorded as the event that it tells.
+abbrev pub ClosesLot : {P : Type 0} → Work → List Call → Call → Answer (Closed P) → Type 0
+ClosesLot w cs call answer = Records w cs call answer (λ c. c .recordAfter) (λ c. c .event)
+
+-- One call more leaves all as it was, or enters one event, of which this holds with the severity then.
+abbrev pub ByCall : Work → Call → List Call → (Event → ℕ → Type 0) → Type 0
+ByCall w c cs P =
+    Idle w cs c
+    ⊎ ((e : Event) × (eventsRan w (c ∷ cs) ≡ e ∷ eventsRan w cs) × P e (ran w (c ∷ cs) .severity))

@@ -1,5 +1,5 @@
--- Demand 3, each sentence a theorem, of histories and of runs of calls; what a run records; and by what tightened and
--- reduced are left. A history is its events, newest first; those of a history of bytes are `past w h (length h)`, the
+-- Demand 3, each sentence a theorem, of histories and of runs of calls; what a run records; and by what each severity is
+-- left. A history is its events, newest first; those of a history of bytes are `past w h (length h)`, the
 -- bytes' events turned round (`past-whole`). A run starts from a fresh record, and refused calls are dropped. For any
 -- permission at the start, and any work.
 -- Assumes nothing.
@@ -11,26 +11,27 @@ use mathlib.Core.Logic.{_⊎_, inl, inr}
 use lib.IntN.{ℤ}
 use lib.ListN.{length}
 use Rattle.rules.specs.Refusals.{given}
-use Rattle.rules.specs.Codes.{tightened, reduced, stopped}
+use Rattle.rules.specs.Codes.{normal, tightened, reduced, stopped}
 use Rattle.rules.specs.Severity.{Event, resubmitted, corrective, Record, fresh, step, inRange}
-use Rattle.rules.specs.Reading.{stayAfter, severityRead, recordRead, staysIn, isResubmitted}
+use Rattle.rules.specs.Reading.{severityRead, recordRead, staysIn, isResubmitted}
 use Rattle.rules.specs.Reading.{withoutResubmitted, severitiesAt}
 use Rattle.rules.specs.History.{Work, knows, eventOf, eventIn, afterFrom, after, past, afterHistory, withoutFours}
 use Rattle.rules.specs.Entries.{Asked, Offered, closeSingle, closeStaged}
-use Rattle.rules.specs.Entries.{closeTotal, next}
+use Rattle.rules.specs.Entries.{closeTotal, next, onRecord}
 use Rattle.rules.specs.Runs.{Call, single, staged, total, byte, sequential, variables, entered}
-use Rattle.rules.specs.Runs.{isResubmission, withoutResubmissions, recordBy, ran, eventsRan, bytesRan}
-use Rattle.rules.proofs.Range.{fresh-range, step-range, after-range}
+use Rattle.rules.specs.Runs.{isResubmission, withoutResubmissions, recordBy, ran, eventsRan, bytesRan, event}
+use Rattle.rules.specs.Runs.{eventsRead, Corrects, Idle, Records, ClosesLot, ByCall}
+use Rattle.rules.specs.Switching.{Every, AtMost25, Whole, NormalLeft, TightenedLeft, ReducedLeft, ReducedStarts}
+use Rattle.rules.proofs.Range.{step-range, after-range}
 use Rattle.rules.proofs.Agreement.{agree, severity-agrees}
-use Rattle.rules.proofs.Stays.{Every, AtMost25, tightened-stays, Whole, stays-whole}
-use Rattle.rules.proofs.Switches.{stopped-left, stopped-corrected, LeavesTightened, tightened-left}
-use Rattle.rules.proofs.Switches.{EndsReduced, LeavesReduced}
-use Rattle.rules.proofs.Switches.{reduced-left, ReducedStarts, reduced-starts}
+use Rattle.rules.proofs.Stays.{tightened-stays, stays-whole}
+use Rattle.rules.proofs.Switches.{stopped-left, stopped-corrected, tightened-left, reduced-left, reduced-starts}
+use Rattle.rules.proofs.Leaving.{normal-left}
 use Rattle.rules.proofs.Resubmitted.{left-severities, without-resubmitted, resubmitted-in, resubmitted-reads}
 use Rattle.rules.proofs.Bytes.{corrective-byte, past-more, past-whole, past-append, past-put-in, past-without}
-use Rattle.rules.proofs.Runs.{ran-agrees, ran-agrees-bytes, ran-resubmitted, ran-without, OneCall, one-call}
-use Rattle.rules.proofs.Runs.{call-range, Idle, Records, ClosesLot, single-closes, staged-closes}
-use Rattle.rules.proofs.Runs.{total-closes, byte-records, sequential-idle, variables-idle}
+use Rattle.rules.proofs.Runs.{ran-agrees, ran-agrees-bytes, ran-resubmitted, ran-without, one-call, by-call}
+use Rattle.rules.proofs.Runs.{call-range, ran-range, ran-corrected, events-as-read, single-closes, staged-closes}
+use Rattle.rules.proofs.Runs.{total-closes, byte-records, event-records, sequential-idle, variables-idle}
 
 -- 1. The record folded over any history not refused has the severity of the written reading, and all its figures.
 module _ (start : Bool) (es : List Event) (r : Record) (q : after start es ≡ given r) where
@@ -63,6 +64,11 @@ module _ (w : Work) (cs : List Call) where
   pub run-takes-byte : (b : ℕ) → Records w cs (byte b) (next w (ran w cs) b) (λ t. t) (λ t. eventIn w b)
   run-takes-byte b = byte-records w cs b
 
+  -- close_lot
+  pub run-takes-event : (e : Event)
+      → Records w cs (event e) (onRecord (ran w cs) (step (ran w cs) e)) (λ t. t) (λ t. e)
+  run-takes-event e = event-records w cs e
+
   pub run-drops-sequential : (q : Asked) (book sample : List ℕ) → Idle w cs (sequential q book sample)
   run-drops-sequential q book sample = sequential-idle w cs q book sample
 
@@ -73,6 +79,10 @@ module _ (w : Work) (cs : List Call) where
 module _ (w : Work) (cs : List Call) where
   pub run-severity : ran w cs .severity ≡ severityRead (w .permission) (eventsRan w cs)
   run-severity = severity-agrees (w .permission) (eventsRan w cs) (ran w cs) (ran-agrees w cs)
+
+  -- the events found from the calls and the written reading alone
+  pub run-events : eventsRead w cs ≡ eventsRan w cs
+  run-events = events-as-read w cs
 
   pub run-record : ran w cs ≡ recordRead (w .permission) (eventsRan w cs)
   run-record = agree (w .permission) (eventsRan w cs) (ran w cs) (ran-agrees w cs)
@@ -118,32 +128,59 @@ after-call : (w : Work) (c : Call) (cs : List Call) (e : Event) → eventsRan w 
     → ran w (c ∷ cs) .severity ≡ severityRead (w .permission) (e ∷ eventsRan w cs)
 after-call w c cs e q = run-severity w (c ∷ cs) ∙ ap (severityRead (w .permission)) q
 
+-- in a run by byte 9, or by that event handed to close_lot
 pub run-stopped : (w : Work) (c : Call) (cs : List Call) → ran w cs .severity ≡ stopped
-    → (ran w (c ∷ cs) .severity ≡ stopped) ⊎ (c ≡ byte 9)
+    → (ran w (c ∷ cs) .severity ≡ stopped) ⊎ Corrects c
 run-stopped w c cs h = go (one-call w c cs)
   where
-    left : (e : Event) → eventsRan w (c ∷ cs) ≡ e ∷ eventsRan w cs → (e ≡ corrective → c ≡ byte 9)
+    left : (e : Event) → eventsRan w (c ∷ cs) ≡ e ∷ eventsRan w cs → (e ≡ corrective → Corrects c)
         → (severityRead (w .permission) (e ∷ eventsRan w cs) ≡ stopped) ⊎ (e ≡ corrective)
-        → (ran w (c ∷ cs) .severity ≡ stopped) ⊎ (c ≡ byte 9)
+        → (ran w (c ∷ cs) .severity ≡ stopped) ⊎ Corrects c
     left e q f (inl s) = inl (after-call w c cs e q ∙ s)
     left e q f (inr s) = inr (f s)
 
-    go : OneCall w c cs → (ran w (c ∷ cs) .severity ≡ stopped) ⊎ (c ≡ byte 9)
-    go (inl q) = inl (ap (λ (r : Record). r .severity) q ∙ h)
+    go : ByCall w c cs (λ e s. e ≡ corrective → Corrects c) → (ran w (c ∷ cs) .severity ≡ stopped) ⊎ Corrects c
+    go (inl q) = inl (ap (λ (r : Record). r .severity) (q .0) ∙ h)
     go (inr x) =
         left (x .0) (x .1) (x .2)
         (stopped-left (w .permission) (x .0) (eventsRan w cs) (sym (run-severity w cs) ∙ h))
 
--- Tightened is left for normal exactly by the fifth accepted in a row of that stay, for stopped exactly by its fifth
--- not
--- accepted; reduced exactly by a lot not accepted or an order that withdraws, for normal.
-pub history-leaves-tightened : (start : Bool) (e : Event) (es : List Event) → severityRead start es ≡ tightened
-    → LeavesTightened e (stayAfter start es .lots) (severityRead start (e ∷ es))
-history-leaves-tightened start e es h = tightened-left start e es h
+pub run-corrected : (w : Work) (c : Call) (cs : List Call) → Corrects c → ran w cs .severity ≡ stopped
+    → ran w (c ∷ cs) .severity ≡ tightened
+run-corrected w c cs k h = ran-corrected w c cs k h
 
-pub history-leaves-reduced : (start : Bool) (e : Event) (es : List Event) → severityRead start es ≡ reduced
-    → LeavesReduced (EndsReduced e) (severityRead start (e ∷ es))
-history-leaves-reduced start e es h = reduced-left start e es h
+-- Normal is left for tightened exactly by a lot not accepted that makes two among the last five of that stay, for
+-- reduced exactly by a lot or an order after which the points are 30, steady and permission stand; tightened for normal
+-- exactly by the fifth accepted in a row of that stay, for stopped exactly by its fifth not accepted; reduced exactly by
+-- a lot not accepted or an order that withdraws, for normal.
+module _ (start : Bool) (e : Event) (es : List Event) where
+  pub history-leaves-normal : severityRead start es ≡ normal → NormalLeft start es e (severityRead start (e ∷ es))
+  history-leaves-normal h = normal-left start e es h
+
+  pub history-leaves-tightened : severityRead start es ≡ tightened
+      → TightenedLeft start es e (severityRead start (e ∷ es))
+  history-leaves-tightened h = tightened-left start e es h
+
+  pub history-leaves-reduced : severityRead start es ≡ reduced → ReducedLeft e (severityRead start (e ∷ es))
+  history-leaves-reduced h = reduced-left start e es h
+
+-- so of a run: a call leaves all as it was, or enters one event, which leaves the severity so
+module _ (w : Work) (c : Call) (cs : List Call) where
+  pub run-leaves-normal : ran w cs .severity ≡ normal → ByCall w c cs (NormalLeft (w .permission) (eventsRan w cs))
+  run-leaves-normal h =
+      by-call w c cs (NormalLeft (w .permission) (eventsRan w cs))
+      (λ e. normal-left (w .permission) e (eventsRan w cs) (sym (run-severity w cs) ∙ h))
+
+  pub run-leaves-tightened : ran w cs .severity ≡ tightened
+      → ByCall w c cs (TightenedLeft (w .permission) (eventsRan w cs))
+  run-leaves-tightened h =
+      by-call w c cs (TightenedLeft (w .permission) (eventsRan w cs))
+      (λ e. tightened-left (w .permission) e (eventsRan w cs) (sym (run-severity w cs) ∙ h))
+
+  pub run-leaves-reduced : ran w cs .severity ≡ reduced → ByCall w c cs ReducedLeft
+  run-leaves-reduced h =
+      by-call w c cs ReducedLeft
+      (λ e. reduced-left (w .permission) e (eventsRan w cs) (sym (run-severity w cs) ∙ h))
 
 -- 4. When reduced starts, it was normal, steady and permission stand, and the last ten original lots of that normal
 -- stay were all accepted.
@@ -156,9 +193,9 @@ pub run-reduced : (w : Work) (c : Call) (cs : List Call) → (ran w cs .severity
     → (e : Event) × (eventsRan w (c ∷ cs) ≡ e ∷ eventsRan w cs) × ReducedStarts (w .permission) e (eventsRan w cs)
 run-reduced w c cs n h = go (one-call w c cs)
   where
-    go : OneCall w c cs
+    go : ByCall w c cs (λ e s. e ≡ corrective → Corrects c)
         → (e : Event) × (eventsRan w (c ∷ cs) ≡ e ∷ eventsRan w cs) × ReducedStarts (w .permission) e (eventsRan w cs)
-    go (inl q) = absurd (n (ap (λ (r : Record). r .severity) (sym q) ∙ h))
+    go (inl q) = absurd (n (ap (λ (r : Record). r .severity) (sym (q .0)) ∙ h))
     go (inr x) = (
       x .0,
       x .1,
@@ -227,5 +264,4 @@ pub bench-range : (w : Work) (r : Record) (c : Call) → inRange r ≡ true → 
 bench-range w r c h = call-range w r c h
 
 pub run-range : (w : Work) (cs : List Call) → inRange (ran w cs) ≡ true
-run-range w cs =
-    after-range (fresh (w .permission)) (eventsRan w cs) (ran w cs) (fresh-range (w .permission)) (ran-agrees w cs)
+run-range w cs = ran-range w cs
