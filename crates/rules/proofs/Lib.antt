@@ -4,6 +4,7 @@ pub mod Append
 pub mod Bools
 pub mod Bounded
 pub mod Bytes
+pub mod Cases
 pub mod Checks
 pub mod Decimals
 pub mod Deciding

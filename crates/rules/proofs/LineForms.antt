@@ -1,4 +1,4 @@
--- A line read byte by byte: its fields one after another, its numbers, and that a line over 45 bytes has no known form.
+-- A line read byte by byte: its fields one after another, its numbers, and that a longer line has no known form.
 -- Assumes nothing.
 use Prim.Native.Nat.{ℕ, suc, _+_, _*_, _-_, _^_, _≤_, _<_}
 use native.Mathlib.Omega.{arith}
@@ -13,6 +13,7 @@ use borrow.Author.Tests.{not-true}
 use Rattle.rules.specs.History.{Work, knows}
 use Rattle.rules.specs.Log.{splitAt, joinFirst, space, isDigit, allDigits, valueFrom, valueOf, largestNumber}
 use Rattle.rules.specs.Log.{isNumber, unknownLine, fieldAt, opens, numbersAfter, yesOrNo, lineOf}
+use Rattle.rules.specs.Log.{originalLetter, resubmittedLetter, steadyLetter, permissionLetter, correctiveLetter}
 use Rattle.rules.specs.Feeding.{upTo, longestLine}
 use Rattle.rules.proofs.Bools.{and-left, and-right, or-unless}
 use Rattle.rules.proofs.Bounded.{by-le}
@@ -91,7 +92,7 @@ number-short (b ∷ bs) h = by-le (length bs) 9 (λ e. omega arith) (λ e. absur
 
 -- five fields, of which the first has one byte and the others are numbers
 lot-short : (fs : List (List ℕ)) → eqb (length fs) 5 ≡ true → eqb (length (fieldAt fs 0)) 1 ≡ true
-    → numbersAfter fs ≡ true → spread fs ≤ 46
+    → numbersAfter fs ≡ true → spread fs ≤ longestLine + 1
 unfolding spread
 lot-short (f₀ ∷ f₁ ∷ f₂ ∷ f₃ ∷ f₄ ∷ []) e o h =
     let h₀ = eqb-true (length f₀) 1 o in
@@ -115,7 +116,7 @@ lot-short (f₀ ∷ f₁ ∷ f₂ ∷ f₃ ∷ f₄ ∷ f₅ ∷ fs) e o h = ome
 )
 
 order-short : (fs : List (List ℕ)) → eqb (length fs) 2 ≡ true → eqb (length (fieldAt fs 0)) 1 ≡ true
-    → yesOrNo (fieldAt fs 1) ≡ true → spread fs ≤ 46
+    → yesOrNo (fieldAt fs 1) ≡ true → spread fs ≤ longestLine + 1
 unfolding spread
 order-short (f₀ ∷ f₁ ∷ []) e o h =
     let h₀ = eqb-true (length f₀) 1 o in
@@ -126,7 +127,7 @@ order-short (f₀ ∷ []) e o h = omega (arith, eqb-true (length (f₀ ∷ [])) 
 order-short (f₀ ∷ f₁ ∷ f₂ ∷ fs) e o h = omega (arith, eqb-true (length (f₀ ∷ f₁ ∷ f₂ ∷ fs)) 2 e)
 
 corrective-short : (fs : List (List ℕ)) → eqb (length fs) 1 ≡ true → eqb (length (fieldAt fs 0)) 1 ≡ true → spread fs
-    ≤ 46
+    ≤ longestLine + 1
 unfolding spread
 corrective-short (f₀ ∷ []) e o = let h₀ = eqb-true (length f₀) 1 o in omega arith
 corrective-short [] e o = omega (arith, eqb-true 0 1 e)
@@ -140,19 +141,19 @@ never false x y h = refl
 pub long-unknown : (w : Work) (l : List ℕ) → longestLine < length l → lineOf w (splitAt space l) ≡ unknownLine
 unfolding lineOf
 long-unknown w l h =
-    never (opens 76 4 fs && numbersAfter fs) _ _ (λ t. lot 76 (and-left (opens 76 4 fs) (numbersAfter fs) t)
-    (and-right (opens 76 4 fs) (numbersAfter fs) t))
-    ∙ never (opens 82 4 fs && (numbersAfter fs && knows w 4)) _ _ (λ t. lot 82 (and-left (opens 82 4 fs)
-    (numbersAfter fs && knows w 4) t) (and-left (numbersAfter fs) (knows w 4) (and-right (opens 82 4 fs)
+    never (opens originalLetter 4 fs && numbersAfter fs) _ _ (λ t. lot originalLetter (and-left (opens originalLetter 4 fs) (numbersAfter fs) t)
+    (and-right (opens originalLetter 4 fs) (numbersAfter fs) t))
+    ∙ never (opens resubmittedLetter 4 fs && (numbersAfter fs && knows w 4)) _ _ (λ t. lot resubmittedLetter (and-left (opens resubmittedLetter 4 fs)
+    (numbersAfter fs && knows w 4) t) (and-left (numbersAfter fs) (knows w 4) (and-right (opens resubmittedLetter 4 fs)
     (numbersAfter fs && knows w 4) t)))
-    ∙ never (opens 83 1 fs && yesOrNo (fieldAt fs 1)) _ _ (order 83)
-    ∙ never (opens 80 1 fs && yesOrNo (fieldAt fs 1)) _ _ (order 80)
-    ∙ never (opens 67 0 fs) _ _ (λ t. wide (corrective-short fs (size 67 0 t) (one 67 0 t)))
+    ∙ never (opens steadyLetter 1 fs && yesOrNo (fieldAt fs 1)) _ _ (order steadyLetter)
+    ∙ never (opens permissionLetter 1 fs && yesOrNo (fieldAt fs 1)) _ _ (order permissionLetter)
+    ∙ never (opens correctiveLetter 0 fs) _ _ (λ t. wide (corrective-short fs (size correctiveLetter 0 t) (one correctiveLetter 0 t)))
   where
     fs : List (List ℕ)
     fs = splitAt space l
 
-    wide : spread (splitAt space l) ≤ 46 → ⊥
+    wide : spread (splitAt space l) ≤ longestLine + 1 → ⊥
     wide s = omega (arith, spread-split space l)
 
     letterIs : ℕ → Bool

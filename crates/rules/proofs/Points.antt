@@ -23,6 +23,7 @@ use Rattle.rules.specs.Book.{seek, seekIn, lookUp, every}
 use Rattle.rules.specs.Entries.{Closed, Offered, singleCounts, stagedCounts, plainPlan, stagedPlan, judgeTotal}
 use Rattle.rules.specs.Entries.{judgeStaged, closeTotal, closeStaged}
 use Rattle.rules.proofs.EntryLaws.{Closes}
+use Rattle.rules.proofs.Cases.{Case, _is_, AllAsSaid}
 
 -- "Ac 2 or more: add 3 if the total is also within the Ac one column tighter .., else score 0. Ac 0 or 1: add 2."
 pub record SinglePoints (ac tighter total : ℕ) (l : Lot) : Type 0 where
@@ -101,38 +102,25 @@ bytesOf (x ∷ xs) = x ∷ 0 ∷ bytesOf xs
 twoStages : List ℕ
 twoStages = bytesOf (0 ∷ 1 ∷ 0 ∷ 1 ∷ 10 ∷ 2 ∷ 2 ∷ 2 ∷ 0 ∷ 2 ∷ 1 ∷ 2 ∷ 0 ∷ 0 ∷ [])
 
-pub computed : List (List ℕ)
-computed =
+pub pointCases : List (Case (List ℕ))
+pointCases =
     -- Ac 0; Ac 1, at both totals
-    closedAs (closeTotal fromFive (offered 10 5 5) 0)
-    ∷ closedAs (closeTotal fromFive (offered 51 5 13) 0)
-    ∷ closedAs (closeTotal fromFive (offered 51 5 13) 1)
+    (closedAs (closeTotal fromFive (offered 10 5 5) 0) is (0 ∷ 7 ∷ 0 ∷ []))
+    ∷ (closedAs (closeTotal fromFive (offered 51 5 13) 0) is (0 ∷ 7 ∷ 0 ∷ []))
+    ∷ (closedAs (closeTotal fromFive (offered 51 5 13) 1) is (0 ∷ 7 ∷ 0 ∷ []))
     -- an arrow goes from F to E: Ac 21, one column tighter 14 at E and 21 at F
-    ∷ closedAs (closeTotal fromFive (offered 150 5 20) 14)
-    ∷ closedAs (closeTotal fromFive (offered 150 5 20) 15)
-    ∷ closedAs (closeTotal fromFive (offered 150 5 20) 22)
+    ∷ (closedAs (closeTotal fromFive (offered 150 5 20) 14) is (0 ∷ 8 ∷ 0 ∷ []))
+    ∷ (closedAs (closeTotal fromFive (offered 150 5 20) 15) is (0 ∷ 0 ∷ 0 ∷ []))
+    ∷ (closedAs (closeTotal fromFive (offered 150 5 20) 22) is (0 ∷ 0 ∷ 1 ∷ []))
     -- accepted at the first stage, at the second; not accepted
-    ∷ closedAs (closeStaged fromFive (offered 8 6 10) twoStages (bytesOf (0 ∷ 0 ∷ [])))
-    ∷ closedAs (closeStaged fromFive (offered 8 6 10) twoStages (bytesOf (1 ∷ 0 ∷ 0 ∷ 0 ∷ [])))
-    ∷ closedAs (closeStaged fromFive (offered 8 6 10) twoStages (bytesOf (1 ∷ 1 ∷ [])))
-    ∷ []
-
-pub said : List (List ℕ)
-said =
-    (0 ∷ 7 ∷ 0 ∷ [])
-    ∷ (0 ∷ 7 ∷ 0 ∷ [])
-    ∷ (0 ∷ 7 ∷ 0 ∷ [])
-    ∷ (0 ∷ 8 ∷ 0 ∷ [])
-    ∷ (0 ∷ 0 ∷ 0 ∷ [])
-    ∷ (0 ∷ 0 ∷ 1 ∷ [])
-    ∷ (0 ∷ 8 ∷ 0 ∷ [])
-    ∷ (0 ∷ 0 ∷ 0 ∷ [])
-    ∷ (0 ∷ 0 ∷ 1 ∷ [])
+    ∷ (closedAs (closeStaged fromFive (offered 8 6 10) twoStages (bytesOf (0 ∷ 0 ∷ []))) is (0 ∷ 8 ∷ 0 ∷ []))
+    ∷ (closedAs (closeStaged fromFive (offered 8 6 10) twoStages (bytesOf (1 ∷ 0 ∷ 0 ∷ 0 ∷ []))) is (0 ∷ 0 ∷ 0 ∷ []))
+    ∷ (closedAs (closeStaged fromFive (offered 8 6 10) twoStages (bytesOf (1 ∷ 1 ∷ []))) is (0 ∷ 0 ∷ 1 ∷ []))
     ∷ []
 
 -- Lots closed at each edge of the points.
-pub closed-points : computed ≡ said
-unfolding computed said fromFive offered closedAs bytesOf twoStages closeTotal closeStaged judgeTotal judgeStaged
+pub closed-points : AllAsSaid pointCases
+unfolding pointCases fromFive offered closedAs bytesOf twoStages closeTotal closeStaged judgeTotal judgeStaged
     plainPlan tablePlan landing boxAt tighterAc letterOf rowOf rowFrom stagedPlan checkBook numbersOf checkedAs
     sections section entries entry shift thenFrom keyFalls rises numbersFrom right stagedRule stagedNumber acKeeps
     reKeeps sameKey seek seekIn lookUp every totalSize judgeStages stagedFrom stagesFrom stageDecides takeItems step

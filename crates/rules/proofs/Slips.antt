@@ -3,16 +3,18 @@
 -- which place.
 -- Assumes nothing.
 use Prim.Native.Nat.{ℕ}
-use mathlib.Core.Path.{_≡_, refl}
+use mathlib.Core.Path.{refl}
 use mathlib.Core.Bool.{Bool, true, false, not}
 use mathlib.Core.List.{List, [], _∷_, _++_}
 use lib.ListN.{length, replicate}
 use Rattle.rules.specs.Refusals.{Answer, refused, given}
+use Rattle.rules.specs.Codes.{normal, tightened, reduced, stopped}
 use Rattle.rules.specs.Severity.{onLot, onResubmitted, onOrder, onCorrective, step}
 use Rattle.rules.specs.Reading.{severityRead, stayAfter, steadyIn, permissionIn, notAcceptedIn, runOf}
 use Rattle.rules.specs.Reading.{pointsOf, readLot, readOrder, readEvent, isResubmitted, severitiesAt}
 use Rattle.rules.specs.History.{ours, past, eventIn, eventOf, afterFrom, listed, withoutFours}
 use Rattle.rules.specs.Entries.{Offered}
+use Rattle.rules.proofs.Cases.{Case, _is_, AllAsSaid}
 use Rattle.rules.specs.Runs.{Call, single, staged, total, byte, withoutResubmissions}
 
 ends : List ℕ → List ℕ
@@ -41,80 +43,48 @@ calls =
     ∷ byte 5
     ∷ []
 
-pub computed : List (List ℕ)
-computed =
+pub slipCases : List (Case (List ℕ))
+slipCases =
     -- "Testing the score alone for reduced."
-    ends (replicate 10 0)
-    ∷ ends (5 ∷ replicate 10 0)
-    ∷ ends (7 ∷ replicate 10 0)
-    ∷ ends (replicate 10 0 ++ (5 ∷ 7 ∷ []))
+    (ends (replicate 10 0) is (normal ∷ []))
+    ∷ (ends (5 ∷ replicate 10 0) is (normal ∷ []))
+    ∷ (ends (7 ∷ replicate 10 0) is (normal ∷ []))
+    ∷ (ends (replicate 10 0 ++ (5 ∷ 7 ∷ [])) is (reduced ∷ []))
     -- "Letting a window or the tightened count run across a change of severity."
-    ∷ ends ((5 ∷ 7 ∷ replicate 10 0) ++ (3 ∷ 3 ∷ []))
-    ∷ ends ((5 ∷ 7 ∷ replicate 10 0) ++ (3 ∷ 3 ∷ 3 ∷ []))
-    ∷ ends nearStopped
-    ∷ ends (nearStopped ++ (3 ∷ []))
-    ∷ ends (nearStopped ++ (replicate 5 0 ++ (3 ∷ 3 ∷ 3 ∷ [])))
+    ∷ (ends ((5 ∷ 7 ∷ replicate 10 0) ++ (3 ∷ 3 ∷ [])) is (normal ∷ []))
+    ∷ (ends ((5 ∷ 7 ∷ replicate 10 0) ++ (3 ∷ 3 ∷ 3 ∷ [])) is (tightened ∷ []))
+    ∷ (ends nearStopped is (tightened ∷ []))
+    ∷ (ends (nearStopped ++ (3 ∷ [])) is (stopped ∷ []))
+    ∷ (ends (nearStopped ++ (replicate 5 0 ++ (3 ∷ 3 ∷ 3 ∷ []))) is (tightened ∷ []))
     -- "five accepted in a row gives normal"
-    ∷ ends (3 ∷ 3 ∷ replicate 4 0)
-    ∷ ends (3 ∷ 3 ∷ replicate 5 0)
+    ∷ (ends (3 ∷ 3 ∷ replicate 4 0) is (tightened ∷ []))
+    ∷ (ends (3 ∷ 3 ∷ replicate 5 0) is (normal ∷ []))
     -- "add 2", "score 0"
-    ∷ ends (5 ∷ 7 ∷ replicate 14 1)
-    ∷ ends (5 ∷ 7 ∷ replicate 15 1)
-    ∷ ends ((5 ∷ 7 ∷ replicate 9 0) ++ (1 ∷ []))
-    ∷ ends ((5 ∷ 7 ∷ replicate 9 0) ++ (2 ∷ 0 ∷ []))
+    ∷ (ends (5 ∷ 7 ∷ replicate 14 1) is (normal ∷ []))
+    ∷ (ends (5 ∷ 7 ∷ replicate 15 1) is (reduced ∷ []))
+    ∷ (ends ((5 ∷ 7 ∷ replicate 9 0) ++ (1 ∷ [])) is (normal ∷ []))
+    ∷ (ends ((5 ∷ 7 ∷ replicate 9 0) ++ (2 ∷ 0 ∷ [])) is (normal ∷ []))
     -- "steady withdrawn or permission withdrawn gives normal", and each as last ordered
-    ∷ ends ((5 ∷ 7 ∷ replicate 10 0) ++ (6 ∷ []))
-    ∷ ends ((5 ∷ 7 ∷ replicate 10 0) ++ (8 ∷ []))
-    ∷ ends (5 ∷ 7 ∷ 6 ∷ 5 ∷ replicate 10 0)
-    ∷ ends (5 ∷ 7 ∷ 8 ∷ 7 ∷ replicate 10 0)
+    ∷ (ends ((5 ∷ 7 ∷ replicate 10 0) ++ (6 ∷ [])) is (normal ∷ []))
+    ∷ (ends ((5 ∷ 7 ∷ replicate 10 0) ++ (8 ∷ [])) is (normal ∷ []))
+    ∷ (ends (5 ∷ 7 ∷ 6 ∷ 5 ∷ replicate 10 0) is (reduced ∷ []))
+    ∷ (ends (5 ∷ 7 ∷ 8 ∷ 7 ∷ replicate 10 0) is (reduced ∷ []))
     -- "a corrective action order gives tightened"
-    ∷ ends (nearStopped ++ (3 ∷ 9 ∷ []))
+    ∷ (ends (nearStopped ++ (3 ∷ 9 ∷ [])) is (tightened ∷ []))
     -- what is left without resubmitted lots: bytes, severities, calls
-    ∷ withoutFours (0 ∷ 4 ∷ 3 ∷ 4 ∷ 5 ∷ [])
-    ∷ severitiesAt (λ e. not (isResubmitted e)) false (past ours (3 ∷ 4 ∷ 3 ∷ 4 ∷ []) 4)
-    ∷ (length (withoutResubmissions ours calls) ∷ [])
+    ∷ (withoutFours (0 ∷ 4 ∷ 3 ∷ 4 ∷ 5 ∷ []) is (0 ∷ 3 ∷ 5 ∷ []))
+    ∷ (severitiesAt (λ e. not (isResubmitted e)) false (past ours (3 ∷ 4 ∷ 3 ∷ 4 ∷ []) 4) is (1 ∷ 0 ∷ []))
+    ∷ ((length (withoutResubmissions ours calls) ∷ []) is (2 ∷ []))
     -- "a history reports its first bad byte (1, 5 or 10, with its place counted from 0) before 11"
-    ∷ answered (listed ours (0 ∷ 12 ∷ []) 0)
-    ∷ answered (listed ours (nearStopped ++ (3 ∷ 0 ∷ [])) 0)
-    ∷ answered (listed ours (9 ∷ []) 0)
-    ∷ answered (listed ours (0 ∷ []) 0)
-    ∷ answered (listed ours (0 ∷ []) 1)
+    ∷ (answered (listed ours (0 ∷ 12 ∷ []) 0) is (1 ∷ 1 ∷ []))
+    ∷ (answered (listed ours (nearStopped ++ (3 ∷ 0 ∷ [])) 0) is (5 ∷ 7 ∷ []))
+    ∷ (answered (listed ours (9 ∷ []) 0) is (10 ∷ 0 ∷ []))
+    ∷ (answered (listed ours (0 ∷ []) 0) is (11 ∷ 0 ∷ []))
+    ∷ (answered (listed ours (0 ∷ []) 1) is (1 ∷ []))
     ∷ []
 
-pub said : List (List ℕ)
-said =
-    (0 ∷ [])
-    ∷ (0 ∷ [])
-    ∷ (0 ∷ [])
-    ∷ (2 ∷ [])
-    ∷ (0 ∷ [])
-    ∷ (1 ∷ [])
-    ∷ (1 ∷ [])
-    ∷ (3 ∷ [])
-    ∷ (1 ∷ [])
-    ∷ (1 ∷ [])
-    ∷ (0 ∷ [])
-    ∷ (0 ∷ [])
-    ∷ (2 ∷ [])
-    ∷ (0 ∷ [])
-    ∷ (0 ∷ [])
-    ∷ (0 ∷ [])
-    ∷ (0 ∷ [])
-    ∷ (2 ∷ [])
-    ∷ (2 ∷ [])
-    ∷ (1 ∷ [])
-    ∷ (0 ∷ 3 ∷ 5 ∷ [])
-    ∷ (1 ∷ 0 ∷ [])
-    ∷ (2 ∷ [])
-    ∷ (1 ∷ 1 ∷ [])
-    ∷ (5 ∷ 7 ∷ [])
-    ∷ (10 ∷ 0 ∷ [])
-    ∷ (11 ∷ 0 ∷ [])
-    ∷ (1 ∷ [])
-    ∷ []
-
-pub slips : computed ≡ said
-unfolding computed said ends answered nearStopped offered calls withoutFours severitiesAt withoutResubmissions listed
+pub slips : AllAsSaid slipCases
+unfolding slipCases ends answered nearStopped offered calls withoutFours severitiesAt withoutResubmissions listed
     afterFrom stayAfter steadyIn permissionIn notAcceptedIn runOf
     pointsOf readLot readOrder readEvent past eventIn eventOf step onLot onResubmitted onOrder onCorrective
     lib.Count.ones

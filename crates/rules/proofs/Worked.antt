@@ -11,7 +11,7 @@ use lib.Ieee.{binary64, fin, ofBits}
 use lib.ListN.{length, getD, replicate}
 use Rattle.rules.specs.Refusals.{Answer, refused, given}
 use Rattle.rules.specs.Ascii.{ascii}
-use Rattle.rules.specs.Codes.{normal, tightened, letterOf, rowOf, rowFrom}
+use Rattle.rules.specs.Codes.{normal, tightened, reduced, letterOf, rowOf, rowFrom}
 use Rattle.rules.specs.Verdict.{Verdict, Decision, accepts, rejects, goesOn}
 use Rattle.rules.specs.Single.{Landing, Plan, landingOf, landing, boxAt, sizes, tablePlan, tighterAc}
 use Rattle.rules.specs.Sequential.{SequentialPlan, sequentialFrom, itemDecides, judgeSequence}
@@ -26,7 +26,8 @@ use Rattle.rules.specs.Reading.{pointsOf, readLot, readOrder, readEvent}
 use Rattle.rules.specs.History.{ours, past, eventIn, eventOf}
 use Rattle.rules.specs.Entries.{next, closeTotal, judgeTotal, plainPlan}
 use Rattle.rules.specs.Log.{log, logFrom, loggedAs, lineOf, splitAt, droppingEmptyLast, allDigits, valueFrom}
-use Rattle.rules.specs.Log.{isNumber, digitsFrom, printed}
+use Rattle.rules.specs.Log.{isNumber, digitsFrom, printed, letterName}
+use Rattle.rules.proofs.Cases.{Case, _is_, AllAsSaid}
 
 -- the letter that gives the size, the size, and Ac
 landedAt : Landing → List ℕ
@@ -56,67 +57,38 @@ readings xs u k = yesNo (acceptsReadings true (record { n = 3; k = k }) (pos u) 
 ends : List ℕ → List ℕ
 ends h = severityRead (ours .permission) (past ours h (length h)) ∷ []
 
--- what the definitions give at each starred case, in document 01's order
-pub computed : List (List ℕ)
-computed =
-    (letterOf 8 6 ∷ [])
-    ∷ (letterOf 9 6 ∷ [])
-    ∷ (letterOf 500 5 ∷ [])
-    ∷ (letterOf 501 5 ∷ [])
-    ∷ landedAt (landingOf normal 9 10)
-    ∷ landedAt (landingOf normal 11 9)
-    ∷ landedAt (landingOf tightened 11 9)
-    ∷ landedAt (landingOf normal 1 15)
-    ∷ landedAt (landingOf tightened 2 15)
-    ∷ landedAt (landingOf normal 15 0)
-    ∷ verdictOf (sequentialFrom sequence false 0 0 (replicate 19 0))
-    ∷ verdictOf (sequentialFrom sequence false 0 0 (replicate 18 0))
-    ∷ verdictOf (sequentialFrom sequence false 0 0 (replicate 3 1))
-    ∷ decisionOf (itemDecides sequence 98 9)
-    ∷ decisionOf (itemDecides sequence 98 10)
-    ∷ readings (pos 10 ∷ pos 12 ∷ pos 14 ∷ []) 20 4000
-    ∷ readings (pos 10 ∷ pos 12 ∷ pos 14 ∷ []) 19 3500
-    ∷ readings (pos 10 ∷ pos 12 ∷ pos 14 ∷ []) 19 3501
-    ∷ readings (pos 10 ∷ pos 12 ∷ pos 14 ∷ []) 11 1
-    ∷ readings (pos 20 ∷ pos 20 ∷ pos 20 ∷ []) 20 4000
-    ∷ ends (3 ∷ 0 ∷ 0 ∷ 0 ∷ 3 ∷ [])
-    ∷ ends (3 ∷ 0 ∷ 0 ∷ 0 ∷ 0 ∷ 3 ∷ [])
-    ∷ ends (5 ∷ 7 ∷ replicate 10 0)
-    ∷ ends (5 ∷ 7 ∷ replicate 9 0)
-    ∷ []
-
--- what document 01 says
-pub said : List (List ℕ)
-said =
-    (1 ∷ [])
-    ∷ (2 ∷ [])
-    ∷ (7 ∷ [])
-    ∷ (8 ∷ [])
-    ∷ (10 ∷ 200 ∷ 3 ∷ [])
-    ∷ (9 ∷ 125 ∷ 5 ∷ [])
-    ∷ (9 ∷ 125 ∷ 3 ∷ [])
-    ∷ (13 ∷ 800 ∷ 0 ∷ [])
-    ∷ (16 ∷ 3150 ∷ 1 ∷ [])
-    ∷ (2 ∷ 5 ∷ 1 ∷ [])
-    ∷ (1 ∷ 19 ∷ [])
-    ∷ (7 ∷ [])
-    ∷ (0 ∷ 3 ∷ [])
-    ∷ (1 ∷ [])
-    ∷ (0 ∷ [])
-    ∷ (1 ∷ [])
-    ∷ (1 ∷ [])
-    ∷ (0 ∷ [])
-    ∷ (0 ∷ [])
-    ∷ (1 ∷ [])
-    ∷ (1 ∷ [])
-    ∷ (0 ∷ [])
-    ∷ (2 ∷ [])
-    ∷ (0 ∷ [])
+-- what the definitions give at each starred case, and what document 01 says, in its order
+pub starredCases : List (Case (List ℕ))
+starredCases =
+    (letterName (letterOf 8 6) is ascii "B")
+    ∷ (letterName (letterOf 9 6) is ascii "C")
+    ∷ (letterName (letterOf 500 5) is ascii "H")
+    ∷ (letterName (letterOf 501 5) is ascii "J")
+    ∷ (landedAt (landingOf normal 9 10) is (10 ∷ 200 ∷ 3 ∷ []))
+    ∷ (landedAt (landingOf normal 11 9) is (9 ∷ 125 ∷ 5 ∷ []))
+    ∷ (landedAt (landingOf tightened 11 9) is (9 ∷ 125 ∷ 3 ∷ []))
+    ∷ (landedAt (landingOf normal 1 15) is (13 ∷ 800 ∷ 0 ∷ []))
+    ∷ (landedAt (landingOf tightened 2 15) is (16 ∷ 3150 ∷ 1 ∷ []))
+    ∷ (landedAt (landingOf normal 15 0) is (2 ∷ 5 ∷ 1 ∷ []))
+    ∷ (verdictOf (sequentialFrom sequence false 0 0 (replicate 19 0)) is (1 ∷ 19 ∷ []))
+    ∷ (verdictOf (sequentialFrom sequence false 0 0 (replicate 18 0)) is (7 ∷ []))
+    ∷ (verdictOf (sequentialFrom sequence false 0 0 (replicate 3 1)) is (0 ∷ 3 ∷ []))
+    ∷ (decisionOf (itemDecides sequence 98 9) is (1 ∷ []))
+    ∷ (decisionOf (itemDecides sequence 98 10) is (0 ∷ []))
+    ∷ (readings (pos 10 ∷ pos 12 ∷ pos 14 ∷ []) 20 4000 is (1 ∷ []))
+    ∷ (readings (pos 10 ∷ pos 12 ∷ pos 14 ∷ []) 19 3500 is (1 ∷ []))
+    ∷ (readings (pos 10 ∷ pos 12 ∷ pos 14 ∷ []) 19 3501 is (0 ∷ []))
+    ∷ (readings (pos 10 ∷ pos 12 ∷ pos 14 ∷ []) 11 1 is (0 ∷ []))
+    ∷ (readings (pos 20 ∷ pos 20 ∷ pos 20 ∷ []) 20 4000 is (1 ∷ []))
+    ∷ (ends (3 ∷ 0 ∷ 0 ∷ 0 ∷ 3 ∷ []) is (tightened ∷ []))
+    ∷ (ends (3 ∷ 0 ∷ 0 ∷ 0 ∷ 0 ∷ 3 ∷ []) is (normal ∷ []))
+    ∷ (ends (5 ∷ 7 ∷ replicate 10 0) is (reduced ∷ []))
+    ∷ (ends (5 ∷ 7 ∷ replicate 9 0) is (normal ∷ []))
     ∷ []
 
 -- The starred cases, together.
-pub starred : computed ≡ said
-unfolding computed said landedAt yesNo verdictOf decisionOf sequence readings ends letterOf rowOf rowFrom landing
+pub starred : AllAsSaid starredCases
+unfolding starredCases landedAt yesNo verdictOf decisionOf sequence readings ends letterOf rowOf rowFrom landing
     boxAt sequentialFrom itemDecides acceptsReadings withinSpread margin spread sumZ squaresZ stayAfter steadyIn
     permissionIn notAcceptedIn runOf pointsOf readLot readOrder readEvent past eventIn eventOf
 starred = refl
@@ -152,78 +124,49 @@ notShown : Answer Shown → List ℕ
 notShown (refused n p) = n ∷ []
 notShown (given s) = []
 
-pub computedEdges : List (List ℕ)
-computedEdges =
-    planned (tablePlan normal 10 5 5)
-    ∷ staged (replicate 6 0)
-    ∷ staged (1 ∷ 0 ∷ 0 ∷ 1 ∷ 0 ∷ 0 ∷ 0 ∷ 0 ∷ 0 ∷ 0 ∷ 0 ∷ 0 ∷ 1 ∷ 0 ∷ 0 ∷ [])
+pub edgeCases : List (Case (List ℕ))
+edgeCases =
+    (planned (tablePlan normal 10 5 5) is (9 ∷ 10 ∷ 0 ∷ []))
+    ∷ (staged (replicate 6 0) is (1 ∷ 6 ∷ []))
+    ∷ (staged (1 ∷ 0 ∷ 0 ∷ 1 ∷ 0 ∷ 0 ∷ 0 ∷ 0 ∷ 0 ∷ 0 ∷ 0 ∷ 0 ∷ 1 ∷ 0 ∷ 0 ∷ []) is (1 ∷ 15 ∷ []))
     -- at least Re rejects; nothing may follow; a half item; whichever of 7 and 8 is met first
-    ∷ staged (1 ∷ 1 ∷ 0 ∷ [])
-    ∷ staged (replicate 7 0)
-    ∷ verdictOf (judgeStages 10 fiveStages (bytesOf (replicate 6 0) ++ (0 ∷ [])))
-    ∷ staged (2 ∷ [])
-    ∷ staged (replicate 6 0 ++ (2 ∷ []))
+    ∷ (staged (1 ∷ 1 ∷ 0 ∷ []) is (0 ∷ 3 ∷ []))
+    ∷ (staged (replicate 7 0) is (7 ∷ []))
+    ∷ (verdictOf (judgeStages 10 fiveStages (bytesOf (replicate 6 0) ++ (0 ∷ []))) is (7 ∷ []))
+    ∷ (staged (2 ∷ []) is (8 ∷ []))
+    ∷ (staged (replicate 6 0 ++ (2 ∷ [])) is (7 ∷ []))
     -- compared exactly
-    ∷ verdictOf (judgeSequence onTheLines (bytesOf (replicate 10 0)))
-    ∷ verdictOf (judgeSequence onTheLines (bytesOf (replicate 9 0)))
-    ∷ verdictOf (judgeSequence onTheLines (bytesOf (1 ∷ 1 ∷ [])))
+    ∷ (verdictOf (judgeSequence onTheLines (bytesOf (replicate 10 0))) is (1 ∷ 10 ∷ []))
+    ∷ (verdictOf (judgeSequence onTheLines (bytesOf (replicate 9 0))) is (7 ∷ []))
+    ∷ (verdictOf (judgeSequence onTheLines (bytesOf (1 ∷ 1 ∷ []))) is (0 ∷ 2 ∷ []))
     -- the screen: no reading, half a reading, 50, 51; 1,000, 1,001
-    ∷ notShown (screen [])
-    ∷ notShown (screen (7 ∷ []))
-    ∷ notShown (screen (replicate 100 0))
-    ∷ notShown (screen (replicate 102 0))
-    ∷ notShown (screen (232 ∷ 3 ∷ []))
-    ∷ notShown (screen (233 ∷ 3 ∷ []))
-    ∷ []
-
-pub saidEdges : List (List ℕ)
-saidEdges =
-    (9 ∷ 10 ∷ 0 ∷ [])
-    ∷ (1 ∷ 6 ∷ [])
-    ∷ (1 ∷ 15 ∷ [])
-    ∷ (0 ∷ 3 ∷ [])
-    ∷ (7 ∷ [])
-    ∷ (7 ∷ [])
-    ∷ (8 ∷ [])
-    ∷ (7 ∷ [])
-    ∷ (1 ∷ 10 ∷ [])
-    ∷ (7 ∷ [])
-    ∷ (0 ∷ 2 ∷ [])
-    ∷ (7 ∷ [])
-    ∷ (7 ∷ [])
-    ∷ []
-    ∷ (7 ∷ [])
-    ∷ []
-    ∷ (9 ∷ [])
+    ∷ (notShown (screen []) is (7 ∷ []))
+    ∷ (notShown (screen (7 ∷ [])) is (7 ∷ []))
+    ∷ (notShown (screen (replicate 100 0)) is [])
+    ∷ (notShown (screen (replicate 102 0)) is (7 ∷ []))
+    ∷ (notShown (screen (232 ∷ 3 ∷ [])) is [])
+    ∷ (notShown (screen (233 ∷ 3 ∷ [])) is (9 ∷ []))
     ∷ []
 
 -- The cases that are not starred, and edges beside them.
-pub edges : computedEdges ≡ saidEdges
-unfolding computedEdges saidEdges planned staged fiveStages bytesOf onTheLines verdictOf yesNo notShown tablePlan
+pub edges : AllAsSaid edgeCases
+unfolding edgeCases planned staged fiveStages bytesOf onTheLines verdictOf yesNo notShown tablePlan
     letterOf rowOf rowFrom landing boxAt judgeStages stagedFrom stagesFrom stageDecides takeItems judgeSequence
     sequentialFrom itemDecides numbersOf screen shownOf allInGauge inGauge signedOf sumZ squaresZ
 edges = refl
 
 -- The screen's figures: 7 alone; 7 and 9, mean 8 and variance 2; −1 and 0, −1/2 and 1/2; and 1, 2, 2, whose mean 5/3
 -- and variance 1/3 are rounded, by their bits.
-pub computedScreens : List (Answer Shown)
-computedScreens =
-    screen (7 ∷ 0 ∷ [])
-    ∷ screen (7 ∷ 0 ∷ 9 ∷ 0 ∷ [])
-    ∷ screen (255 ∷ 255 ∷ 0 ∷ 0 ∷ [])
-    ∷ screen (1 ∷ 0 ∷ 2 ∷ 0 ∷ 2 ∷ 0 ∷ [])
+pub screenCases : List (Case (Answer Shown))
+screenCases =
+    (screen (7 ∷ 0 ∷ []) is given (mean (fin false 7 (pos 0))))
+    ∷ (screen (7 ∷ 0 ∷ 9 ∷ 0 ∷ []) is given (meanAndVariance (fin false 1 (pos 3)) (fin false 1 (pos 1))))
+    ∷ (screen (255 ∷ 255 ∷ 0 ∷ 0 ∷ []) is given (meanAndVariance (fin true 1 (negsuc 0)) (fin false 1 (negsuc 0))))
+    ∷ (screen (1 ∷ 0 ∷ 2 ∷ 0 ∷ 2 ∷ 0 ∷ []) is given (meanAndVariance (ofBits binary64 4610184818551597739) (ofBits binary64 4599676419421066581)))
     ∷ []
 
-pub saidScreens : List (Answer Shown)
-saidScreens =
-    given (mean (fin false 7 (pos 0)))
-    ∷ given (meanAndVariance (fin false 1 (pos 3)) (fin false 1 (pos 1)))
-    ∷ given (meanAndVariance (fin true 1 (negsuc 0)) (fin false 1 (negsuc 0)))
-    ∷ given (meanAndVariance (ofBits binary64 4610184818551597739) (ofBits binary64 4599676419421066581))
-    ∷ []
-
-pub screens : computedScreens ≡ saidScreens
-unfolding computedScreens saidScreens screen shownOf quotient spread numbersOf allInGauge inGauge signedOf sumZ squaresZ
+pub screens : AllAsSaid screenCases
+unfolding screenCases screen shownOf quotient spread numbersOf allInGauge inGauge signedOf sumZ squaresZ
     lib.Ieee.div lib.Ieee.ofInt lib.Ieee.ofBits
 screens = refl
 

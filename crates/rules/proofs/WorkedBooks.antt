@@ -2,13 +2,14 @@
 -- the numbers on both sides of each bound of each kind of section (the 16 bits of a number are a bound of their own).
 -- Assumes nothing.
 use Prim.Native.Nat.{ℕ, _-_, _/_, _%_}
-use mathlib.Core.Path.{_≡_, refl}
-use mathlib.Core.List.{List, [], _∷_, _++_, map}
+use mathlib.Core.Path.{refl}
+use mathlib.Core.List.{List, [], _∷_, _++_}
 use lib.ListN.{set, replicate}
 use Rattle.rules.specs.Numbers.{numbersOf}
 use Rattle.rules.specs.Book.{Checked, sound, brokenAt, checkBook, checkedAs, sections, section, entries, entry}
 use Rattle.rules.specs.Book.{keyFalls, rises, numbersFrom, right, stagedRule, stagedNumber, acKeeps, reKeeps}
 use Rattle.rules.specs.Book.{sequentialRule, atFits, shift, thenFrom}
+use Rattle.rules.proofs.Cases.{Case, AllAsSaid}
 
 abbrev bytesOf : List ℕ → List ℕ
 bytesOf [] = []
@@ -30,15 +31,12 @@ with place x = bytesOf (set whole place x)
 alone : ℕ → List ℕ → List ℕ
 alone j e = bytesOf (replicate j 0 ++ ((1 ∷ e) ++ replicate (3 - j) 0))
 
-pub record Case : Type 0 where
-  pub book : List ℕ
-  pub answer : Checked
-
+-- what checking a book finds
 infix 20 _is_
-abbrev _is_ : List ℕ → Checked → Case
-book is answer = record { book = book; answer = answer }
+abbrev _is_ : List ℕ → Checked → Case Checked
+book is answer = record { computed = checkBook book; said = answer }
 
-pub cases : List Case
+pub cases : List (Case Checked)
 cases =
     -- four empty sections, and a whole book
     (replicate 8 0 is sound)
@@ -140,7 +138,7 @@ cases =
     ∷ (with 43 4001 is brokenAt 86)
     ∷ []
 
-pub worked-books : map (λ c. checkBook (c .book)) cases ≡ map (λ c. c .answer) cases
+pub worked-books : AllAsSaid cases
 unfolding cases whole with alone checkBook numbersOf checkedAs sections section entries entry shift thenFrom keyFalls
     rises
     numbersFrom right stagedRule stagedNumber acKeeps reKeeps sequentialRule atFits

@@ -5,10 +5,11 @@ use mathlib.Core.List.{List, [], _∷_, _++_}
 use lib.Dec.{leb, ltb, eqb}
 use lib.ListN.{length, getD}
 use Rattle.rules.specs.Refusals.{Answer, refused, given, unknownForm}
+use Prim.Native.Char.{code}
 use Rattle.rules.specs.Ascii.{ascii}
 use Rattle.rules.specs.Single.{Plan}
-use Rattle.rules.specs.Severity.{Record, fresh}
-use Rattle.rules.specs.History.{Work, knows}
+use Rattle.rules.specs.Severity.{resubmitted, steadyIs, permissionIs, corrective, Record, fresh}
+use Rattle.rules.specs.History.{byteOf, Work, knows}
 use Rattle.rules.specs.Entries.{Offered, Closed, closeTotal, next}
 
 -- the bytes of a stretch between separators, one stretch more than there are separators
@@ -37,8 +38,14 @@ abbrev pub linesOf : List ℕ → List (List ℕ)
 linesOf input = droppingEmptyLast (splitAt newline input)
 
 -- "Numbers are decimal without leading zeros, each at most 4,294,967,295"
+abbrev pub digitZero : ℕ
+digitZero = 48
+
+abbrev pub digitNine : ℕ
+digitNine = 57
+
 abbrev pub isDigit : ℕ → Bool
-isDigit b = leb 48 b && leb b 57
+isDigit b = leb digitZero b && leb b digitNine
 
 unfoldable pub allDigits : List ℕ → Bool
 allDigits [] = true
@@ -46,7 +53,7 @@ allDigits (b ∷ bs) = isDigit b && allDigits bs
 
 unfoldable pub valueFrom : ℕ → List ℕ → ℕ
 valueFrom v [] = v
-valueFrom v (b ∷ bs) = valueFrom (10 * v + (b - 48)) bs
+valueFrom v (b ∷ bs) = valueFrom (10 * v + (b - digitZero)) bs
 
 abbrev pub valueOf : List ℕ → ℕ
 valueOf field = valueFrom 0 field
@@ -58,7 +65,7 @@ unfoldable pub isNumber : List ℕ → Bool
 isNumber field =
     not (eqb (length field) 0)
     && (allDigits field
-    && ((eqb (length field) 1 || not (eqb (getD field 0 0) 48)) && leb (valueOf field) largestNumber))
+    && ((eqb (length field) 1 || not (eqb (getD field 0 0) digitZero)) && leb (valueOf field) largestNumber))
 
 -- A line: a lot with its total, an order as its history byte, or nothing known.
 pub data Line : Type 0 where
@@ -99,21 +106,39 @@ yesOrNo field = isNumber field && leb (valueOf field) 1
 abbrev pub orderIn : ℕ → ℕ → List (List ℕ) → Line
 orderIn onYes onNo fields = orderLine (cond (eqb (valueOf (fieldAt fields 1)) 1) onYes onNo)
 
--- L 76, R 82, "S (steady) and P (permission)" 83 and 80, "C (corrective)" 67; the forms that the work knows are those
--- of its history bytes
+-- "L or R (original, resubmitted)"
+abbrev pub originalLetter : ℕ
+originalLetter = code "L"
+
+abbrev pub resubmittedLetter : ℕ
+resubmittedLetter = code "R"
+
+-- "S (steady) and P (permission)", "C (corrective)"
+abbrev pub steadyLetter : ℕ
+steadyLetter = code "S"
+
+abbrev pub permissionLetter : ℕ
+permissionLetter = code "P"
+
+abbrev pub correctiveLetter : ℕ
+correctiveLetter = code "C"
+
+-- a line's form by its letter; R lines are known where byte 4 is
 unfoldable pub lineOf : Work → List (List ℕ) → Line
 lineOf w fields =
-    cond (opens 76 4 fields && numbersAfter fields) (lotIn false fields)
-    (cond (opens 82 4 fields && (numbersAfter fields && knows w 4)) (lotIn true fields)
-    (cond (opens 83 1 fields && yesOrNo (fieldAt fields 1)) (orderIn 5 6 fields)
-    (cond (opens 80 1 fields && yesOrNo (fieldAt fields 1)) (orderIn 7 8 fields)
-    (cond (opens 67 0 fields) (orderLine 9) unknownLine))))
+    cond (opens originalLetter 4 fields && numbersAfter fields) (lotIn false fields)
+    (cond (opens resubmittedLetter 4 fields && (numbersAfter fields && knows w (byteOf resubmitted))) (lotIn true fields)
+    (cond (opens steadyLetter 1 fields && yesOrNo (fieldAt fields 1))
+    (orderIn (byteOf (steadyIs true)) (byteOf (steadyIs false)) fields)
+    (cond (opens permissionLetter 1 fields && yesOrNo (fieldAt fields 1))
+    (orderIn (byteOf (permissionIs true)) (byteOf (permissionIs false)) fields)
+    (cond (opens correctiveLetter 0 fields) (orderLine (byteOf corrective)) unknownLine))))
 
 -- a number in decimal, of at most 20 digits
 unfoldable pub digitsFrom : ℕ → ℕ → List ℕ → List ℕ
 digitsFrom zero n after = after
 digitsFrom (suc k) n after =
-    cond (ltb n 10) ((48 + n) ∷ after) (digitsFrom k (n / 10) ((48 + n % 10) ∷ after))
+    cond (ltb n 10) ((digitZero + n) ∷ after) (digitsFrom k (n / 10) ((digitZero + n % 10) ∷ after))
 
 abbrev pub decimal : ℕ → List ℕ
 decimal n = digitsFrom 20 n []
@@ -178,8 +203,11 @@ abbrev pub loggedLine : Work → ℕ → Record → List ℕ → Logged
 loggedLine w line r bytes = loggedAs w line r (lineOf w (splitAt space bytes))
 
 -- the line's number sticks at 2⁶⁴ − 1
+abbrev pub largestLine : ℕ
+largestLine = 18446744073709551615
+
 abbrev pub lineAfter : ℕ → ℕ
-lineAfter line = min (line + 1) 18446744073709551615
+lineAfter line = min (line + 1) largestLine
 
 unfoldable pub logFrom : Work → ℕ → Record → List (List ℕ) → List ℕ
 logFrom w line r [] = []
