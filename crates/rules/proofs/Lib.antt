@@ -31,6 +31,7 @@ pub mod PrintedTables
 pub mod Range
 pub mod Readings
 pub mod Refusals
+pub mod Relisted
 pub mod Resubmitted
 pub mod Runs
 pub mod SMethod

@@ -8,7 +8,8 @@ use mathlib.Core.Logic.{_⊎_}
 use lib.IntN.{ℤ}
 use Rattle.rules.specs.Refusals.{Answer, refused, given}
 use Rattle.rules.specs.Severity.{Event, corrective, Record, fresh, step}
-use Rattle.rules.specs.Reading.{isResubmitted, recordRead}
+use Rattle.rules.specs.Verdict.{Verdict, Judged}
+use Rattle.rules.specs.Reading.{isResubmitted, severityRead, recordRead}
 use Rattle.rules.specs.History.{Work, eventIn, byteOf}
 use Rattle.rules.specs.Entries.{Asked, Offered, Closed, closeSingle, closeStaged, closeTotal, next}
 use Rattle.rules.specs.Entries.{onRecord}
@@ -114,3 +115,15 @@ abbrev pub ByCall : Work → Call → List Call → (Event → ℕ → Type 0) �
 ByCall w c cs P =
     Idle w cs c
     ⊎ ((e : Event) × (eventsRan w (c ∷ cs) ≡ e ∷ eventsRan w cs) × P e (ran w (c ∷ cs) .severity))
+
+-- a lot asked about under a severity
+abbrev pub askedAt : ℕ → Offered → Asked
+askedAt severity o = record { severity = severity; size = o .size; level = o .level; column = o .column }
+
+-- "Resubmitted lots are judged at the present severity": a lot closed in a run, resubmitted or not, is judged at the
+-- severity that the written reading of the events so far finds.
+abbrev pub AskedAsRead : {P : Type 0}
+    → Work → List Call → Offered → Answer (Closed P) → (Asked → Answer (Judged P Verdict)) → Type 0
+AskedAsRead {P} w cs o closing judge =
+    (c : Closed P) → closing ≡ given c
+    → judge (askedAt (severityRead (w .permission) (eventsRan w cs)) o) ≡ given (c .judged)

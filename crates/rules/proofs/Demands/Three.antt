@@ -10,18 +10,20 @@ use mathlib.Core.List.{List, [], _∷_, _++_, map, reverse}
 use mathlib.Core.Logic.{_⊎_, inl, inr}
 use lib.IntN.{ℤ}
 use lib.ListN.{length}
-use Rattle.rules.specs.Refusals.{given}
+use Rattle.rules.specs.Refusals.{Answer, given}
+use Rattle.rules.specs.Verdict.{Verdict, Judged}
 use Rattle.rules.specs.Codes.{normal, tightened, reduced, stopped}
 use Rattle.rules.specs.Severity.{Event, resubmitted, corrective, Record, fresh, step, inRange}
 use Rattle.rules.specs.Reading.{severityRead, recordRead, staysIn, isResubmitted}
 use Rattle.rules.specs.Reading.{withoutResubmitted, severitiesAt}
 use Rattle.rules.specs.History.{Work, knows, eventOf, eventIn, afterFrom, after, past, afterHistory, withoutFours}
 use Rattle.rules.specs.Entries.{Asked, Offered, closeSingle, closeStaged}
-use Rattle.rules.specs.Entries.{closeTotal, next, onRecord}
+use Rattle.rules.specs.Entries.{closeTotal, next, onRecord, judgeSingle, judgeStaged, judgeTotal}
 use Rattle.rules.specs.Runs.{Call, single, staged, total, byte, sequential, variables, entered}
 use Rattle.rules.specs.Runs.{isResubmission, withoutResubmissions, recordBy, ran, eventsRan, bytesRan, event}
-use Rattle.rules.specs.Runs.{eventsRead, Corrects, Idle, Records, ClosesLot, ByCall}
+use Rattle.rules.specs.Runs.{eventsRead, Corrects, Idle, Records, ClosesLot, ByCall, askedAt, AskedAsRead}
 use Rattle.rules.specs.Switching.{Every, AtMost25, Whole, NormalLeft, TightenedLeft, ReducedLeft, ReducedStarts}
+use Rattle.rules.proofs.Demands.Two.{close-single-given, close-staged-given, close-total-given}
 use Rattle.rules.proofs.Range.{step-range, after-range}
 use Rattle.rules.proofs.Agreement.{agree, severity-agrees}
 use Rattle.rules.proofs.Stays.{tightened-stays, stays-whole}
@@ -90,6 +92,30 @@ module _ (w : Work) (cs : List Call) where
   -- of the bytes that the calls stand for
   pub run-record-bytes : ran w cs ≡ recordRead (w .permission) (map eventOf (bytesRan w cs))
   run-record-bytes = agree (w .permission) (map eventOf (bytesRan w cs)) (ran w cs) (ran-agrees-bytes w cs)
+
+-- A lot closed in a run, resubmitted or not, is judged at the severity that the written reading of the events so far
+-- finds.
+module _ (w : Work) (cs : List Call) (o : Offered) where
+  as-read : {P : Type 0} (judge : Asked → Answer (Judged P Verdict)) (j : Judged P Verdict)
+      → judge (askedAt (ran w cs .severity) o) ≡ given j
+      → judge (askedAt (severityRead (w .permission) (eventsRan w cs)) o) ≡ given j
+  as-read judge j q = rw (← run-severity w cs) q
+
+  pub single-asked-as-read : (book sample : List ℕ)
+      → AskedAsRead w cs o (closeSingle (ran w cs) o book sample) (λ q. judgeSingle q book sample)
+  single-asked-as-read book sample c g =
+      as-read (λ q. judgeSingle q book sample) (c .judged)
+      (close-single-given (ran w cs) o book sample c .0 g .as-judged)
+
+  pub staged-asked-as-read : (book sample : List ℕ)
+      → AskedAsRead w cs o (closeStaged (ran w cs) o book sample) (λ q. judgeStaged q book sample)
+  staged-asked-as-read book sample c g =
+      as-read (λ q. judgeStaged q book sample) (c .judged)
+      (close-staged-given (ran w cs) o book sample c .0 g .as-judged)
+
+  pub total-asked-as-read : (d : ℕ) → AskedAsRead w cs o (closeTotal (ran w cs) o d) (λ q. judgeTotal q d)
+  total-asked-as-read d c g =
+      as-read (λ q. judgeTotal q d) (c .judged) (close-total-given (ran w cs) o d c .0 g .as-judged)
 
 -- 2. A tightened stay holds at most 25 original lots and at most five not accepted: every stay of the history.
 pub history-tightened : (start : Bool) (es : List Event) → Every AtMost25 (staysIn start es)
