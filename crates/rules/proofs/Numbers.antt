@@ -1,6 +1,6 @@
 -- The numbers of a stretch of bytes: how many there are, which stands where, those from a place on, and a reading.
 -- Assumes nothing.
-use Prim.Native.Nat.{ℕ, zero, suc, _+_, _-_, _*_, _/_, _≤_, _<_}
+use Prim.Native.Nat.{ℕ, zero, suc, _+_, _-_, _*_, _/_, _%_, _≤_, _<_}
 use mathlib.Core.Path.{_≡_, refl, ap, _∙_}
 use mathlib.Core.List.{List, [], _∷_}
 use native.Mathlib.Omega.{arith}
@@ -8,7 +8,7 @@ use borrow.Author.Tests.{lt-ltb, le-ltb}
 use lib.IntN.{pos, _+ℤ_}
 use lib.ListN.{length, getD, drop, take, length-drop, drop-of-length-le}
 use lib.Seq.{take-all, drop-cons}
-use Rattle.rules.specs.Numbers.{numbersOf, signedOf}
+use Rattle.rules.specs.Numbers.{numbersOf, numberBytes, signedOf}
 
 pub numbers-low : (b : List ℕ) → 2 * length (numbersOf b) ≤ length b
 unfolding numbersOf
@@ -76,3 +76,14 @@ raised-high v h l =
     let e : v - 32768 ≡ 32768 - suc (65536 - suc v) = omega arith in
     rw (le-ltb v 32768 h, lt-ltb v 65536 l)
     (rw (le-ltb 32768 (suc (65536 - suc v)) (omega arith)) (ap pos e))
+
+-- Numbers as bytes, two each, are read back as those numbers.
+pub bytes-twice : (xs : List ℕ) → length (numberBytes xs) ≡ 2 * length xs
+unfolding numberBytes
+bytes-twice [] = refl
+bytes-twice (x ∷ xs) = omega (arith, bytes-twice xs)
+
+pub numbers-back : (xs : List ℕ) → numbersOf (numberBytes xs) ≡ xs
+unfolding numberBytes numbersOf
+numbers-back [] = refl
+numbers-back (x ∷ xs) = let e : x % 256 + 256 * (x / 256) ≡ x = omega arith in rw (e, numbers-back xs)

@@ -9,7 +9,7 @@ use native.Mathlib.Omega.{arith}
 use borrow.Author.Tests.{le-leb, lt-leb, ne-eqb}
 use Rattle.rules.specs.Refusals.{Answer, refused, given}
 use Rattle.rules.specs.Codes.{normal, letterOf, rowOf, rowFrom}
-use Rattle.rules.specs.Numbers.{numbersOf}
+use Rattle.rules.specs.Numbers.{numbersOf, numberBytes}
 use Rattle.rules.specs.Verdict.{Verdict, Judged}
 use Rattle.rules.specs.Single.{Plan, tablePlan, landing, boxAt, tighterAc}
 use Rattle.rules.specs.Staged.{StagedPlan, stagesFrom, totalSize, stageDecides, takeItems, stagedFrom}
@@ -94,13 +94,9 @@ closedAs : {P : Type 0} → Answer (Closed P) → List ℕ
 closedAs (refused n p) = n ∷ []
 closedAs (given c) = c .recordAfter .severity ∷ c .recordAfter .score ∷ c .recordAfter .window ∷ []
 
-bytesOf : List ℕ → List ℕ
-bytesOf [] = []
-bytesOf (x ∷ xs) = x ∷ 0 ∷ bytesOf xs
-
 -- one staged entry: normal, B, 1.0, two stages of 2 with (0,2)(1,2)
 twoStages : List ℕ
-twoStages = bytesOf (0 ∷ 1 ∷ 0 ∷ 1 ∷ 10 ∷ 2 ∷ 2 ∷ 2 ∷ 0 ∷ 2 ∷ 1 ∷ 2 ∷ 0 ∷ 0 ∷ [])
+twoStages = numberBytes (0 ∷ 1 ∷ 0 ∷ 1 ∷ 10 ∷ 2 ∷ 2 ∷ 2 ∷ 0 ∷ 2 ∷ 1 ∷ 2 ∷ 0 ∷ 0 ∷ [])
 
 pub pointCases : List (Case (List ℕ))
 pointCases =
@@ -113,14 +109,14 @@ pointCases =
     ∷ (closedAs (closeTotal fromFive (offered 150 5 20) 15) is (0 ∷ 0 ∷ 0 ∷ []))
     ∷ (closedAs (closeTotal fromFive (offered 150 5 20) 22) is (0 ∷ 0 ∷ 1 ∷ []))
     -- accepted at the first stage, at the second; not accepted
-    ∷ (closedAs (closeStaged fromFive (offered 8 6 10) twoStages (bytesOf (0 ∷ 0 ∷ []))) is (0 ∷ 8 ∷ 0 ∷ []))
-    ∷ (closedAs (closeStaged fromFive (offered 8 6 10) twoStages (bytesOf (1 ∷ 0 ∷ 0 ∷ 0 ∷ []))) is (0 ∷ 0 ∷ 0 ∷ []))
-    ∷ (closedAs (closeStaged fromFive (offered 8 6 10) twoStages (bytesOf (1 ∷ 1 ∷ []))) is (0 ∷ 0 ∷ 1 ∷ []))
+    ∷ (closedAs (closeStaged fromFive (offered 8 6 10) twoStages (numberBytes (0 ∷ 0 ∷ []))) is (0 ∷ 8 ∷ 0 ∷ []))
+    ∷ (closedAs (closeStaged fromFive (offered 8 6 10) twoStages (numberBytes (1 ∷ 0 ∷ 0 ∷ 0 ∷ []))) is (0 ∷ 0 ∷ 0 ∷ []))
+    ∷ (closedAs (closeStaged fromFive (offered 8 6 10) twoStages (numberBytes (1 ∷ 1 ∷ []))) is (0 ∷ 0 ∷ 1 ∷ []))
     ∷ []
 
 -- Lots closed at each edge of the points.
 pub closed-points : AllAsSaid pointCases
-unfolding pointCases fromFive offered closedAs bytesOf twoStages closeTotal closeStaged judgeTotal judgeStaged
+unfolding pointCases fromFive offered closedAs numberBytes twoStages closeTotal closeStaged judgeTotal judgeStaged
     plainPlan tablePlan landing boxAt tighterAc letterOf rowOf rowFrom stagedPlan checkBook numbersOf checkedAs
     sections section entries entry shift thenFrom keyFalls rises numbersFrom right stagedRule stagedNumber acKeeps
     reKeeps sameKey seek seekIn lookUp every totalSize judgeStages stagedFrom stagesFrom stageDecides takeItems step

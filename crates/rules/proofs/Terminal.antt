@@ -1,22 +1,29 @@
--- The C terminal's forms lose nothing: a record and its bytes, a refusal and its status.
+-- The C terminal's forms lose nothing: a record and its bytes, a refusal and its status, a staged plan and its row.
 -- Assumes nothing.
-use Prim.Native.Nat.{ℕ, zero, suc, _/_, _%_, _<_}
+use Prim.Native.Nat.{ℕ, zero, suc, _+_, _-_, _/_, _%_, _≤_, _<_, min}
 use mathlib.Core.Path.{_≡_, refl, ap, sym, _∙_}
 use mathlib.Core.Logic.{_↔_}
 use mathlib.Core.Bool.{Bool, true, false}
-use mathlib.Core.List.{List}
+use mathlib.Core.List.{List, _++_}
 use native.Mathlib.Omega.{arith}
 use borrow.Author.Tests.{leb-true, eqb-true}
 use lib.Dec.{leb, eqb}
-use lib.ListN.{length, getD}
+use lib.ListN.{length, getD, replicate, length-append, length-replicate}
 use lib.Seq.{ext-getD}
 use Rattle.rules.specs.Refusals.{Answer, refused, given}
 use Rattle.rules.specs.Severity.{Record, inRange, figuresInRange}
-use Rattle.rules.specs.Book.{every}
-use Rattle.rules.specs.Terminal.{statusOf, flag, bytesOf, hasForm, recordIn}
+use Rattle.rules.specs.Book.{every, seven, stagedOf}
+use Rattle.rules.specs.Entries.{Asked, stagedPlan}
+use Rattle.rules.specs.Numbers.{numbersOf}
+use Rattle.rules.specs.Staged.{StagedPlan}
+use Rattle.rules.specs.Terminal.{statusOf, largestPlace, wideStatusOf, flag, bytesOf, hasForm, recordIn}
+use Rattle.rules.specs.Terminal.{rowLength, rowBytes}
+use Rattle.rules.proofs.Numbers.{bytes-twice, numbers-back}
 use Rattle.rules.proofs.Answers.{refused-given}
 use Rattle.rules.proofs.Bools.{and-left, and-right}
 use Rattle.rules.proofs.HeldStaged.{every-length, every-at}
+use Rattle.rules.proofs.GivenPlans.{staged-given}
+use Rattle.rules.proofs.Demands.Two.{staged-plan-given}
 
 flag-low : (b : Bool) → leb (flag b) 1 ≡ true
 flag-low true = refl
@@ -76,3 +83,52 @@ status-given (given a) numbered = (λ e. (a, refl), λ g. refl)
 pub status-refused : {A : Type 0} (x : Answer A) (n p : ℕ) → n < 256 → x ≡ refused n p
     → (statusOf x % 256 ≡ n) × (statusOf x / 256 ≡ p)
 status-refused x n p h e = rw e (omega arith, omega arith)
+
+-- The same of the 64-bit status of a list; a place that 56 bits hold can be told from it.
+pub wide-given : {A : Type 0} (x : Answer A) → ((n p : ℕ) → x ≡ refused n p → 0 < n)
+    → (wideStatusOf x ≡ 0) ↔ ((a : A) × (x ≡ given a))
+wide-given (refused n p) numbered = (
+  λ e. absurd (omega (arith, numbered n p refl)),
+  λ g. absurd (refused-given (g .1)),
+)
+wide-given (given a) numbered = (λ e. (a, refl), λ g. refl)
+
+pub wide-refused : {A : Type 0} (x : Answer A) (n p : ℕ) → n < 256 → x ≡ refused n p
+    → (wideStatusOf x % 256 ≡ n) × (wideStatusOf x / 256 ≡ min p largestPlace)
+wide-refused x n p h e = rw e (omega arith, omega arith)
+
+-- A staged plan's row has 42 bytes, and its numbers are read back from it.
+pub row-length : (p : StagedPlan) → length (p .sizes) ≡ 7 → length (p .acs) ≡ 7 → length (p .res) ≡ 7
+    → length (rowBytes p) ≡ rowLength
+row-length p a b c =
+    omega (
+      arith,
+      bytes-twice (p .sizes ++ (p .acs ++ p .res)),
+      length-append (p .sizes) (p .acs ++ p .res),
+      length-append (p .acs) (p .res),
+    )
+
+pub row-back : (p : StagedPlan) → numbersOf (rowBytes p) ≡ p .sizes ++ (p .acs ++ p .res)
+row-back p = numbers-back (p .sizes ++ (p .acs ++ p .res))
+
+-- Every plan that a book supplies has seven places of each, and so a row of 42 bytes.
+pub given-row : (q : Asked) (book : List ℕ) (p : StagedPlan) → stagedPlan q book ≡ given p
+    → length (rowBytes p) ≡ rowLength
+given-row q book p h =
+    let s = staged-plan-given q book p .0 h in
+    let few = staged-given q book p h .few .1 in
+    let m = getD (s .entry) 3 0 in
+    let at : stagedOf (s .entry) ≡ p = s .is-plan in
+    let k : m ≤ 7 = rw (← at) at few in
+    rw (← at)
+    (row-length (stagedOf (s .entry)) (seven-long 4 1 m (s .entry) k) (seven-long (4 + m) 2 m (s .entry) k)
+    (seven-long (5 + m) 2 m (s .entry) k))
+  where
+    seven-long : (from by m : ℕ) (e : List ℕ) → m ≤ 7 → length (seven (every from by m e)) ≡ 7
+    seven-long from by m e k =
+        omega (
+          arith,
+          length-append (every from by m e) (replicate (7 - length (every from by m e)) 0),
+          length-replicate {A = ℕ} (7 - length (every from by m e)) 0,
+          every-length from by m e,
+        )

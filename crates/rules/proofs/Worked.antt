@@ -15,7 +15,7 @@ use Rattle.rules.specs.Codes.{normal, tightened, reduced, letterOf, rowO
 use Rattle.rules.specs.Verdict.{Verdict, Decision, accepts, rejects, goesOn}
 use Rattle.rules.specs.Single.{Landing, Plan, landingOf, landing, boxAt, sizes, tablePlan, tighterAc}
 use Rattle.rules.specs.Sequential.{SequentialPlan, sequentialFrom, itemDecides, judgeSequence}
-use Rattle.rules.specs.Numbers.{numbersOf, signedOf}
+use Rattle.rules.specs.Numbers.{numbersOf, signedOf, numberBytes}
 use Rattle.rules.specs.Staged.{StagedPlan, mark, stagesFrom, stageDecides, takeItems, stagedFrom, judgeStages}
 use Rattle.rules.specs.Screen.{Shown, mean, meanAndVariance, quotient, shownOf, screen}
 use Rattle.rules.specs.Variables.{acceptsReadings, withinSpread, margin, spread, sumZ, squaresZ, inGauge}
@@ -103,13 +103,8 @@ fiveStages =
       res = 2 ∷ 3 ∷ 3 ∷ 3 ∷ 4 ∷ 0 ∷ 0 ∷ [];
     }
 
--- items, each 0 or 1, as a sample's bytes
-bytesOf : List ℕ → List ℕ
-bytesOf [] = []
-bytesOf (x ∷ xs) = x ∷ 0 ∷ bytesOf xs
-
 staged : List ℕ → List ℕ
-staged items = verdictOf (judgeStages 10 fiveStages (bytesOf items))
+staged items = verdictOf (judgeStages 10 fiveStages (numberBytes items))
 
 -- both lines met exactly: hA 1, g 0.1, so that 10 clean items stand on the first; hR 1.8, so that 2 bad ones stand on
 -- the second
@@ -132,13 +127,13 @@ edgeCases =
     -- at least Re rejects; nothing may follow; a half item; whichever of 7 and 8 is met first
     ∷ (staged (1 ∷ 1 ∷ 0 ∷ []) is (0 ∷ 3 ∷ []))
     ∷ (staged (replicate 7 0) is (7 ∷ []))
-    ∷ (verdictOf (judgeStages 10 fiveStages (bytesOf (replicate 6 0) ++ (0 ∷ []))) is (7 ∷ []))
+    ∷ (verdictOf (judgeStages 10 fiveStages (numberBytes (replicate 6 0) ++ (0 ∷ []))) is (7 ∷ []))
     ∷ (staged (2 ∷ []) is (8 ∷ []))
     ∷ (staged (replicate 6 0 ++ (2 ∷ [])) is (7 ∷ []))
     -- compared exactly
-    ∷ (verdictOf (judgeSequence onTheLines (bytesOf (replicate 10 0))) is (1 ∷ 10 ∷ []))
-    ∷ (verdictOf (judgeSequence onTheLines (bytesOf (replicate 9 0))) is (7 ∷ []))
-    ∷ (verdictOf (judgeSequence onTheLines (bytesOf (1 ∷ 1 ∷ []))) is (0 ∷ 2 ∷ []))
+    ∷ (verdictOf (judgeSequence onTheLines (numberBytes (replicate 10 0))) is (1 ∷ 10 ∷ []))
+    ∷ (verdictOf (judgeSequence onTheLines (numberBytes (replicate 9 0))) is (7 ∷ []))
+    ∷ (verdictOf (judgeSequence onTheLines (numberBytes (1 ∷ 1 ∷ []))) is (0 ∷ 2 ∷ []))
     -- the screen: no reading, half a reading, 50, 51; 1,000, 1,001
     ∷ (notShown (screen []) is (7 ∷ []))
     ∷ (notShown (screen (7 ∷ [])) is (7 ∷ []))
@@ -150,7 +145,7 @@ edgeCases =
 
 -- The cases that are not starred, and edges beside them.
 pub edges : AllAsSaid edgeCases
-unfolding edgeCases planned staged fiveStages bytesOf onTheLines verdictOf yesNo notShown tablePlan
+unfolding edgeCases planned staged fiveStages numberBytes onTheLines verdictOf yesNo notShown tablePlan
     letterOf rowOf rowFrom landing boxAt judgeStages stagedFrom stagesFrom stageDecides takeItems judgeSequence
     sequentialFrom itemDecides numbersOf screen shownOf allInGauge inGauge signedOf sumZ squaresZ
 edges = refl

@@ -1,19 +1,15 @@
 -- Small books and what checking them finds, together, as one list under one claim: each kind of fault at its byte, and
 -- the numbers on both sides of each bound of each kind of section (the 16 bits of a number are a bound of their own).
 -- Assumes nothing.
-use Prim.Native.Nat.{ℕ, _-_, _/_, _%_}
+use Prim.Native.Nat.{ℕ, _-_}
 use mathlib.Core.Path.{refl}
 use mathlib.Core.List.{List, [], _∷_, _++_}
 use lib.ListN.{set, replicate}
-use Rattle.rules.specs.Numbers.{numbersOf}
+use Rattle.rules.specs.Numbers.{numbersOf, numberBytes}
 use Rattle.rules.specs.Book.{Checked, sound, brokenAt, checkBook, checkedAs, sections, section, entries, entry}
 use Rattle.rules.specs.Book.{keyFalls, rises, numbersFrom, right, stagedRule, stagedNumber, acKeeps, reKeeps}
 use Rattle.rules.specs.Book.{sequentialRule, atFits, shift, thenFrom}
 use Rattle.rules.proofs.Cases.{Case, AllAsSaid}
-
-abbrev bytesOf : List ℕ → List ℕ
-bytesOf [] = []
-bytesOf (x ∷ xs) = (x % 256) ∷ (x / 256) ∷ bytesOf xs
 
 -- a sound book of 44 numbers: two reduced singles, a staged plan, a sequential and a variables plan
 whole : List ℕ
@@ -25,11 +21,11 @@ whole =
 
 -- the same with another number at a place
 with : ℕ → ℕ → List ℕ
-with place x = bytesOf (set whole place x)
+with place x = numberBytes (set whole place x)
 
 -- one entry, in the section at a place of the order
 alone : ℕ → List ℕ → List ℕ
-alone j e = bytesOf (replicate j 0 ++ ((1 ∷ e) ++ replicate (3 - j) 0))
+alone j e = numberBytes (replicate j 0 ++ ((1 ∷ e) ++ replicate (3 - j) 0))
 
 -- what checking a book finds
 infix 20 _is_
@@ -40,11 +36,11 @@ pub cases : List (Case Checked)
 cases =
     -- four empty sections, and a whole book
     (replicate 8 0 is sound)
-    ∷ (bytesOf whole is sound)
+    ∷ (numberBytes whole is sound)
     -- "the book's length where a number is missing or half there": no number, half a number, a column, an entry
     ∷ ([] is brokenAt 0)
     ∷ (replicate 7 0 is brokenAt 7)
-    ∷ (bytesOf (2 ∷ 1 ∷ 0 ∷ 5 ∷ 0 ∷ 0 ∷ []) is brokenAt 12)
+    ∷ (numberBytes (2 ∷ 1 ∷ 0 ∷ 5 ∷ 0 ∷ 0 ∷ []) is brokenAt 12)
     ∷ (with 38 2 is brokenAt 88)
     -- "the first byte after the fourth section": a byte, a number, an entry that no count names
     ∷ (replicate 9 0 is brokenAt 8)
@@ -56,9 +52,9 @@ cases =
     -- "the entry's first number where its whole key doesn't rise": the same key, one lower by its second and by its
     -- first number, and a second number that is lower where the first rises
     ∷ (with 6 0 is brokenAt 10)
-    ∷ (bytesOf (2 ∷ 0 ∷ 1 ∷ 5 ∷ 0 ∷ 0 ∷ 0 ∷ 5 ∷ 0 ∷ 0 ∷ 0 ∷ 0 ∷ []) is brokenAt 10)
-    ∷ (bytesOf (2 ∷ 1 ∷ 0 ∷ 5 ∷ 0 ∷ 0 ∷ 99 ∷ 5 ∷ 0 ∷ 0 ∷ 0 ∷ 0 ∷ []) is brokenAt 10)
-    ∷ (bytesOf (2 ∷ 0 ∷ 1 ∷ 5 ∷ 0 ∷ 1 ∷ 0 ∷ 5 ∷ 0 ∷ 0 ∷ 0 ∷ 0 ∷ []) is sound)
+    ∷ (numberBytes (2 ∷ 0 ∷ 1 ∷ 5 ∷ 0 ∷ 0 ∷ 0 ∷ 5 ∷ 0 ∷ 0 ∷ 0 ∷ 0 ∷ []) is brokenAt 10)
+    ∷ (numberBytes (2 ∷ 1 ∷ 0 ∷ 5 ∷ 0 ∷ 0 ∷ 99 ∷ 5 ∷ 0 ∷ 0 ∷ 0 ∷ 0 ∷ []) is brokenAt 10)
+    ∷ (numberBytes (2 ∷ 0 ∷ 1 ∷ 5 ∷ 0 ∷ 1 ∷ 0 ∷ 5 ∷ 0 ∷ 0 ∷ 0 ∷ 0 ∷ []) is sound)
     -- reduced singles: letter, column, n, Ac
     ∷ (with 5 15 is sound)
     ∷ (with 5 16 is brokenAt 10)
@@ -139,7 +135,7 @@ cases =
     ∷ []
 
 pub worked-books : AllAsSaid cases
-unfolding cases whole with alone checkBook numbersOf checkedAs sections section entries entry shift thenFrom keyFalls
+unfolding cases whole with alone checkBook numberBytes numbersOf checkedAs sections section entries entry shift thenFrom keyFalls
     rises
     numbersFrom right stagedRule stagedNumber acKeeps reKeeps sequentialRule atFits
 worked-books = refl

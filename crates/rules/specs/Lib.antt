@@ -1,3 +1,4 @@
+-- What must be believed: the functions' promises are written in these. Each is held to document 01 sentence by sentence.
 pub mod Refusals
 pub mod Numbers
 pub mod Codes
@@ -8,15 +9,21 @@ pub mod Sequential
 pub mod Variables
 pub mod Screen
 pub mod Severity
-pub mod Reading
 pub mod History
-pub mod Switching
 pub mod Book
-pub mod Layout
-pub mod Faults
 pub mod Entries
 pub mod Ascii
-pub mod Runs
 pub mod Log
-pub mod Feeding
 pub mod Terminal
+-- Second readings: the same said another way, and proved to agree, so that a slip would have to be made in both alike.
+-- Reading says without a record what Severity says step by step (`agree`); Faults, by the places of Layout, says without
+-- a walk what Book finds (`lowest`, `sound-has-none`); Feeding says piece by piece what Log says of a whole input
+-- (`any-pieces`).
+pub mod Reading
+pub mod Layout
+pub mod Faults
+pub mod Feeding
+-- Words of theorems: what demand 3 says of a run of calls, of stays and of changes of severity. No promise is written in
+-- these; they are read to know what the theorems claim.
+pub mod Runs
+pub mod Switching

@@ -1,5 +1,5 @@
 -- Lent memory: bytes; a number in it is 16 bits, little-endian (a reading: two's complement). Definitions only.
-use Prim.Native.Nat.{ℕ, _+_, _*_, _%_}
+use Prim.Native.Nat.{ℕ, _+_, _*_, _/_, _%_}
 use mathlib.Core.Bool.{Bool, cond}
 use mathlib.Core.List.{List, [], _∷_}
 use lib.Dec.{ltb, eqb}
@@ -11,6 +11,11 @@ unfoldable pub numbersOf : List ℕ → List ℕ
 numbersOf [] = []
 numbersOf (low ∷ []) = []
 numbersOf (low ∷ high ∷ rest) = (low + 256 * high) ∷ numbersOf rest
+
+-- numbers as they stand in lent memory
+unfoldable pub numberBytes : List ℕ → List ℕ
+numberBytes [] = []
+numberBytes (x ∷ xs) = (x % 256) ∷ (x / 256) ∷ numberBytes xs
 
 -- is a last number half there?
 abbrev pub halfLeft : List ℕ → Bool
