@@ -1,5 +1,11 @@
 -- Document 01's values for each case of the code's types. Definitions only.
-use Rattle.rules.specs.Book as book
+use Prim.Native.Nat.{ℕ}
+use mathlib.Core.Bool.{Bool, cond}
+use mathlib.Core.List.{List, []}
+use lib.Dec.{leb}
+use lib.ListN.{getD}
+use Rattle.rules.specs.Book as paper
+use Rattle.rules.specs.Book.{Kind, kindAt, sizeOf, keyOf, keyFor, rises, numbersFrom, seven, stagedOf}
 use Rattle.rules.specs.Staged as staged
 use Rattle.rules.specs.Sequential as sequential
 use Rattle.rules.specs.Variables as variables
@@ -7,8 +13,12 @@ use Rattle.entry.specs.declared.ReducedSingle.{ReducedSingle}
 use Rattle.entry.specs.declared.StagedPlan.{StagedPlan}
 use Rattle.entry.specs.declared.SequentialPlan.{SequentialPlan}
 use Rattle.entry.specs.declared.VariablesPlan.{VariablesPlan}
+use Rattle.entry.specs.declared.Key.{Key}
+use Rattle.entry.specs.declared.Walk.{Walk}
+use Rattle.entry.specs.declared.Walk.the-variants.{Ends, Broken, Short}
+use Rattle.entry.specs.declared.ranges.Range.{Range}
 
-abbrev pub reducedPaper : ReducedSingle → book.ReducedSingle
+abbrev pub reducedPaper : ReducedSingle → paper.ReducedSingle
 reducedPaper p = record { n = p .n; ac = p .ac }
 
 abbrev pub stagedPaper : StagedPlan → staged.StagedPlan
@@ -19,3 +29,30 @@ sequentialPaper p = record { hA = p .ha; hR = p .hr; g = p .g; nt = p .nt; atNt 
 
 abbrev pub variablesPaper : VariablesPlan → variables.VariablesPlan
 variablesPaper p = record { n = p .n; k = p .k }
+
+abbrev pub rangePaper : Range → paper.Range
+rangePaper r = record { low = r .0; high = r .1 }
+
+-- the numbers of a key in an entry of a kind
+abbrev pub keyPaper : Kind → Key → List ℕ
+keyPaper k key = keyFor k (key .severity) (key .letter) (key .column)
+
+abbrev pub walkPaper : Walk → paper.Walk
+walkPaper (Ends p) = paper.ends p
+walkPaper (Broken p) = paper.broken p
+walkPaper Short = paper.short
+
+-- the numbers of the entry that a stretch begins with
+abbrev pub entryRead : ℕ → List ℕ → paper.Walk
+entryRead kind ws = numbersFrom (kindAt kind) ws (sizeOf (kindAt kind) ws) 0
+
+-- does the key that one stretch begins with come after that of another?
+abbrev pub risesAfter : ℕ → List ℕ → List ℕ → Bool
+risesAfter kind before e = rises (keyOf (kindAt kind) before) (keyOf (kindAt kind) e)
+
+-- the plan of a staged entry by itself: "The stages are few, 2 to 7 of them", so one that says over seven has none
+abbrev pub noStages : staged.StagedPlan
+noStages = record { stages = 0; sizes = seven []; acs = seven []; res = seven [] }
+
+abbrev pub stagedRead : List ℕ → staged.StagedPlan
+stagedRead e = cond (leb (getD e 3 0) 7) (stagedOf e) noStages

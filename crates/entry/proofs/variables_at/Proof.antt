@@ -1,0 +1,26 @@
+-- `entry::variables_at` meets its contract.
+-- Assumes nothing.
+use mathlib.Core.Path.{_∙_}
+use native.Mathlib.Omega.{arith}
+use denote.Ref.{now}
+use Rattle.rules.specs.Numbers.{numbersOf}
+use borrow.Author.Needs.{needs}
+use Rattle.entry.proofs.Seven.{number-taken}
+use Rattle.entry.proofs.variables_at.Statement.{statement}
+use Rattle.entry.proofs.variables_at.Tie as tie
+
+returns : tie.Need-returns
+returns c =
+    let ws = numbersOf (now (c .before .before .before .args .e)) in
+    rw (
+      c .before .number16 .ensures ∙ number-taken ws 5 3 (omega arith),
+      c .number162 .ensures ∙ number-taken ws 5 4 (omega arith),
+    )
+
+pub variables-at-spec : {M : Type 1} → statement M
+variables-at-spec =
+    tie.close
+    (tie.spec
+    (λ c κs. search needs)
+    (λ c κs. search needs)
+    returns)
