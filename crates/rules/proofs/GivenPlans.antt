@@ -38,7 +38,7 @@ use Rattle.rules.proofs.LookUp.{Held, found-in, found-under, found-held
 use Rattle.rules.proofs.HeldPlans.{SingleRight, cut-right, reduced-held}
 use Rattle.rules.proofs.HeldPlans.{SequentialRight, sequential-held, VariablesRight}
 use Rattle.rules.proofs.HeldPlans.{variables-held, variables-could}
-use Rattle.rules.proofs.HeldStaged.{StagedRight, staged-held}
+use Rattle.rules.proofs.HeldStaged.{StagedRight, staged-held, staged-decides}
 
 -- an entry of a sound book under the key of a lot that can be planned, and not above it, supplies the plan
 supplies : {P : Type 0} (j : ℕ) (needed : List ℕ → ℕ) (planOf : List ℕ → P) (q : Asked) (book : List ℕ)
@@ -119,7 +119,7 @@ module _ (q : Asked) (book : List ℕ) where
       → ((i : ℕ) → i < p .stages → stageDecides (stageAt p i) (sumOf (take (sizeOfFirst (suc i) p) xs)) ≡ goesOn) → ⊥
   staged-in-time p h =
       let r = staged-given p h in
-      never-runs-out p (omega (arith, r .few .0)) (r .decides)
+      never-runs-out p (omega (arith, r .few .0)) (staged-decides p r)
 
   pub sequential-given : (p : SequentialPlan) → sequentialPlan q book ≡ given p
       → SequentialRight p

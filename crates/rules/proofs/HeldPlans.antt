@@ -20,6 +20,7 @@ use Rattle.rules.specs.Numbers.{numbersOf}
 use Rattle.rules.specs.Book.{checkBook, sound, kinds, kindAt, lookUp, Found, found, nothing}
 use Rattle.rules.specs.Variables.{VariablesPlan}
 use Rattle.rules.specs.Entries.{Asked, variablesEntry, reducedPlan}
+pub use Rattle.rules.specs.PlanRules.{SingleRight, VariablesRight, SequentialRight}
 use Rattle.rules.proofs.Bools.{and-left, and-right}
 use Rattle.rules.proofs.SectionKinds.{item-columns, entry-deep}
 use Rattle.rules.proofs.Steps.{sequential-at}
@@ -40,19 +41,6 @@ module _ (k : Kind) (e : List ℕ) (h : Held k e) (p : ℕ) (l : p < sizeOf k e)
   unfolding right
   keeps-rule =
       and-right (within (getD (k .ranges) p anything) (getD e p 0)) (k .rule (take p e) (getD e p 0)) (h .each p l)
-
--- "letter 0 to 15, column, n 1 to 3,150, Ac up to 65,534"
-pub record SingleRight (p : Plan) : Type 0 where
-  pub some : 1 ≤ p .n
-  pub few : p .n ≤ 3150
-  pub ac : p .ac ≤ 65534
-
--- "n is 2 to 50, K .. is 1 to 4,000"
-pub record VariablesRight (p : VariablesPlan) : Type 0 where
-  pub two : 2 ≤ p .n
-  pub fifty : p .n ≤ 50
-  pub some : 1 ≤ p .k
-  pub high : p .k ≤ 4000
 
 pub variables-held : (e : List ℕ) → Held variables e → VariablesRight (variablesOf e)
 variables-held e h =
@@ -94,18 +82,6 @@ pub reduced-held : (q : Asked) → 1 ≤ q .size → (e : List ℕ) → Held red
 reduced-held q s e h =
     cut-right (q .size) s (record { letter = letterOf (q .size) (q .level); n = getD e 2 0; ac = getD e 3 0 })
     (single-held e h (letterOf (q .size) (q .level)))
-
--- "hA, hR (both 1 or more), g 1 to 60,000, nt 1 to 3,150, At with floor(g·nt − hA) ≤ At < ceiling(g·nt + hR)": at the
--- last
--- item At agrees with the two lines.
-pub record SequentialRight (p : SequentialPlan) : Type 0 where
-  pub hA : (1 ≤ p .hA) × (p .hA ≤ 65535)
-  pub hR : (1 ≤ p .hR) × (p .hR ≤ 65535)
-  pub g : (1 ≤ p .g) × (p .g ≤ 60000)
-  pub nt : (1 ≤ p .nt) × (p .nt ≤ 3150)
-  pub atNt : p .atNt ≤ 65535
-  pub accepts : (d : ℕ) → onAcceptLine p (p .nt) d ≡ true → d ≤ p .atNt
-  pub rejects : (d : ℕ) → onRejectLine p (p .nt) d ≡ true → p .atNt < d
 
 fits-accepts : (hA hR g nt x d : ℕ) → atFits hA hR g nt x ≡ true → leb (100000 * d + 100 * hA) (g * nt) ≡ true → d ≤ x
 unfolding atFits

@@ -12,6 +12,7 @@ use Rattle.rules.specs.Book.{within, _to_, staged, acKeeps, reKeeps}
 use Rattle.rules.specs.Book.{stagedNumber, every, seven, stagedOf}
 use Rattle.rules.specs.Staged.{StagedPlan, Stage, stageAt, stageDecides, mark}
 use Rattle.rules.specs.Verdict.{accepts, rejects, goesOn}
+pub use Rattle.rules.specs.PlanRules.{StagedRight}
 use Rattle.rules.proofs.Bools.{and-left, and-right, or-unless}
 use Rattle.rules.proofs.Bounded.{by-le}
 use Rattle.rules.proofs.Steps.{staged-at}
@@ -31,11 +32,11 @@ PlanByStage p = ByStage (p .stages) (λ j. getD (p .sizes) j 0) (λ j. getD (p .
 
 -- the rule of a number, by what stands at its place
 module _ (m j two one x : ℕ) where
-  size-number : j < m → stagedNumber (4 + j) m two one x ≡ within (1 to 2000) x
+  pub size-number : j < m → stagedNumber (4 + j) m two one x ≡ within (1 to 2000) x
   unfolding stagedNumber
   size-number h = let l : 4 + j < 4 + m = omega arith in rw (lt-ltb (4 + j) (4 + m) l)
 
-  ac-number : stagedNumber (4 + m + 2 * j) m two one x ≡ acKeeps (eqb j 0) (eqb (j + 1) m) two x
+  pub ac-number : stagedNumber (4 + m + 2 * j) m two one x ≡ acKeeps (eqb j 0) (eqb (j + 1) m) two x
   unfolding stagedNumber
   ac-number =
       let l : 4 + m ≤ 4 + m + 2 * j = omega arith in
@@ -43,7 +44,7 @@ module _ (m j two one x : ℕ) where
       let half : (4 + m + 2 * j - (4 + m)) / 2 ≡ j = omega arith in
       rw (le-ltb (4 + m + 2 * j) (4 + m) l, even, half)
 
-  re-number : stagedNumber (5 + m + 2 * j) m two one x ≡ reKeeps (eqb j 0) (eqb (j + 1) m) two one x
+  pub re-number : stagedNumber (5 + m + 2 * j) m two one x ≡ reKeeps (eqb j 0) (eqb (j + 1) m) two one x
   unfolding stagedNumber
   re-number =
       let l : 4 + m ≤ 5 + m + 2 * j = omega arith in
@@ -52,11 +53,11 @@ module _ (m j two one x : ℕ) where
       rw (le-ltb (5 + m + 2 * j) (4 + m) l, odd, half)
 
 -- at the first stage there is no number before
-ac-first : (last : Bool) (b c x : ℕ) → acKeeps true last b x ≡ acKeeps true last c x
+pub ac-first : (last : Bool) (b c x : ℕ) → acKeeps true last b x ≡ acKeeps true last c x
 unfolding acKeeps
 ac-first last b c x = refl
 
-re-first : (last : Bool) (b c x y : ℕ) → reKeeps true last b x y ≡ reKeeps true last c x y
+pub re-first : (last : Bool) (b c x y : ℕ) → reKeeps true last b x y ≡ reKeeps true last c x y
 unfolding reKeeps
 re-first last b c x y = refl
 
@@ -159,7 +160,7 @@ module _ (e : List ℕ) (h : Held staged e) where
           ∙ kept (5 + m + 2 * suc j) (omega arith) (omega arith))
 
 -- the same numbers, in other words
-by-stage-as : {m : ℕ} {f g h f′ g′ h′ : ℕ → ℕ} → ByStage m f g h → ((j : ℕ) → j < m → f′ j ≡ f j)
+pub by-stage-as : {m : ℕ} {f g h f′ g′ h′ : ℕ → ℕ} → ByStage m f g h → ((j : ℕ) → j < m → f′ j ≡ f j)
     → ((j : ℕ) → j < m → g′ j ≡ g j) → ((j : ℕ) → j < m → h′ j ≡ h j) → ByStage m f′ g′ h′
 by-stage-as b p q r =
     record {
@@ -182,26 +183,10 @@ every-at p s (suc n) e zero h = let z : p + s * 0 ≡ p = omega arith in rw z
 every-at p s (suc n) e (suc i) h =
     let z : p + s * suc i ≡ p + s + s * i = omega arith in rw z (every-at (p + s) s n e i (omega arith))
 
-seven-at : (p s n : ℕ) (e : List ℕ) (i : ℕ) → i < n → getD (seven (every p s n e)) i 0 ≡ getD e (p + s * i) 0
+pub seven-at : (p s n : ℕ) (e : List ℕ) (i : ℕ) → i < n → getD (seven (every p s n e)) i 0 ≡ getD e (p + s * i) 0
 seven-at p s n e i h =
     List·getD-append (every p s n e) (replicate (7 - length (every p s n e)) 0) 0 i (rw (every-length p s n e) h)
     ∙ every-at p s n e i h
-
--- What the rules of the section give, for the plan's stages.
-pub record StagedRight (p : StagedPlan) : Type 0 where
-  pub few : (2 ≤ p .stages) × (p .stages ≤ 7)
-  -- "sizes (1 to 2,000 each)", "Re up to 65,534"
-  pub size : (j : ℕ) → j < p .stages → (1 ≤ getD (p .sizes) j 0) × (getD (p .sizes) j 0 ≤ 2000)
-  pub re : (j : ℕ) → j < p .stages → getD (p .res) j 0 ≤ 65534
-  -- "neither number falls, Ac under Re", but for a mark, which "stands only before numbers"
-  pub under : (j : ℕ) → j < p .stages → (getD (p .acs) j 0 ≡ mark → ⊥) → getD (p .acs) j 0 < getD (p .res) j 0
-  pub ac-kept : (j : ℕ) → suc j < p .stages → (getD (p .acs) j 0 ≡ mark → ⊥)
-      → (getD (p .acs) (suc j) 0 ≡ mark → ⊥) × (getD (p .acs) j 0 ≤ getD (p .acs) (suc j) 0)
-  pub re-kept : (j : ℕ) → suc j < p .stages → getD (p .res) j 0 ≤ getD (p .res) (suc j) 0
-  -- "last Re = Ac + 1", a mark "is out of range at the last stage": the last stage decides every total
-  pub last-number : getD (p .acs) (p .stages - 1) 0 ≡ mark → ⊥
-  pub last-re : getD (p .res) (p .stages - 1) 0 ≡ getD (p .acs) (p .stages - 1) 0 + 1
-  pub decides : (total : ℕ) → stageDecides (stageAt p (p .stages - 1)) total ≡ goesOn → ⊥
 
 last-decides : (s : Stage) → (s .ac ≡ mark → ⊥) → s .re ≡ s .ac + 1 → (total : ℕ) → stageDecides s total ≡ goesOn → ⊥
 unfolding stageDecides
@@ -232,7 +217,6 @@ by-stage-right p b =
       re-kept = λ j h. re-past (eqb (suc j) 0) _ (getD (p .res) j 0) _ (getD (p .res) (suc j) 0) (kept-re j h) (past j);
       last-number = number;
       last-re = over;
-      decides = last-decides (stageAt p (p .stages - 1)) number over;
     }
   where
     past : (j : ℕ) → eqb (suc j) 0 ≡ false
@@ -264,6 +248,11 @@ by-stage-right p b =
     over =
         re-last _ _ _ (getD (p .acs) (p .stages - 1) 0) (getD (p .res) (p .stages - 1) 0)
         (b .re-kept (p .stages - 1) inside) last number
+
+-- the last stage decides every total
+pub staged-decides : (p : StagedPlan) → StagedRight p → (total : ℕ)
+    → stageDecides (stageAt p (p .stages - 1)) total ≡ goesOn → ⊥
+staged-decides p r = last-decides (stageAt p (p .stages - 1)) (r .last-number) (r .last-re)
 
 -- the plan that an entry holds, stage by stage
 plan-by-stage : (e : List ℕ) → Held staged e → PlanByStage (stagedOf e)

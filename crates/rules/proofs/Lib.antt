@@ -40,6 +40,7 @@ pub mod SampleSteps
 pub mod SectionKinds
 pub mod Singles
 pub mod Slips
+pub mod StagedExactly
 pub mod Stays
 pub mod Steps
 pub mod Switches

@@ -23,7 +23,8 @@ pub mod Reading
 pub mod Layout
 pub mod Faults
 pub mod Feeding
--- Words of theorems: what demand 3 says of a run of calls, of stays and of changes of severity. No promise is written in
--- these; they are read to know what the theorems claim.
+-- Words of theorems: what the plans of a sound book keep, what demand 3 says of a run of calls, of stays and of changes
+-- of severity. No promise is written in these; they are read to know what the theorems claim.
+pub mod PlanRules
 pub mod Runs
 pub mod Switching
