@@ -3,14 +3,15 @@
 use Prim.Native.Nat.{ℕ}
 use mathlib.Core.Path.{_≡_, sym, ap, _∙_}
 use mathlib.Core.List.{List}
-use Rattle.severity.specs.declared.Listed.{Listed}
-use Rattle.severity.specs.Paper.{paperListed, Lists}
+use Rattle.rules.specs.History.{Work, ours}
+use Rattle.history.specs.declared.Listed.{Listed}
+use Rattle.history.specs.Paper.{listedPaper, Lists}
 use Rattle.bench_list.specs.Numbered.{numberOf, ListLeft}
 
-pub told : {h out last : List ℕ} {l : Listed} (m : Listed) → l ≡ m → Lists h out last l
-    → ListLeft h out last (numberOf (paperListed m))
-told m same lists =
+pub told : {w : Work} {h out last : List ℕ} {l : Listed} (m : Listed) → w ≡ ours → l ≡ m → Lists w h out last l
+    → ListLeft h out last (numberOf (listedPaper m))
+told m work same lists =
     record {
-      number = ap numberOf (ap paperListed (sym same) ∙ lists .answer);
-      buffer = lists .buffer;
+      number = rw (← work) (ap numberOf (ap listedPaper (sym same) ∙ lists .answer));
+      buffer = rw (← work) (lists .buffer);
     }

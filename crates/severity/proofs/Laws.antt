@@ -2,20 +2,20 @@
 -- Assumes nothing.
 use Prim.Native.Nat.{ℕ, zero, suc, _+_, _*_, _%_, _≤_, _<_, min}
 use mathlib.Core.Path.{_≡_, refl, sym, ap, _∙_}
-use mathlib.Core.Bool.{Bool, true, false, _&&_}
+use mathlib.Core.Bool.{Bool, true, false, cond, _&&_}
 use native.Mathlib.Omega.{arith}
 use native.Mathlib.Numerals.{add-one}
 use lib.Dec.{leb, ltb, eqb}
 use lib.Count.{ones}
+use lib.ListN.{getD}
 use borrow.Author.Tests.{le-leb, lt-leb, eq-eqb, ne-eqb, lt-ltb, le-ltb}
 use Rattle.rules.specs.Refusals.{Answer, refused, given}
-use Rattle.rules.specs.Severity.{Lot, addThree, addTwo, scoreZero, notAccepted, accepted, Event, unknown, Record}
-use Rattle.rules.specs.Severity.{started}
+use Rattle.rules.specs.Severity.{Lot, addThree, addTwo, scoreZero, notAccepted, accepted, Event}
+use Rattle.rules.specs.Severity.{resubmitted, unknown, Record, started}
 use Rattle.rules.specs.Severity.{onNormal, onTightened, due, settled, scoreAfter, windowAfter, lotNormal, lotTightened}
 use Rattle.rules.specs.Severity.{onLot, onResubmitted, onOrder, onCorrective, step, figuresInRange, scoreAndWindow}
-use Rattle.rules.specs.Severity.{noScoreOrWindow, runAndCount, noRunOrCount, inRange, counted, singlePoints}
-use Rattle.rules.specs.Severity.{stagedPoints}
-use Rattle.rules.specs.History.{ours, eventIn}
+use Rattle.rules.specs.Severity.{noScoreOrWindow, runAndCount, noRunOrCount, inRange}
+use Rattle.rules.specs.History.{Work, knows, byteEvents, eventOf, eventIn}
 use Rattle.rules.specs.Entries.{onRecord}
 use Rattle.severity.specs.declared.Lot as declared
 use Rattle.severity.specs.declared.Lot.the-variants as lots
@@ -25,7 +25,7 @@ use Rattle.severity.specs.declared.Event.the-variants as events
 use Rattle.severity.specs.declared.Record as declared-record
 use Rattle.severity.specs.declared.Stepped as declared-stepped
 use Rattle.severity.specs.declared.Stepped.the-variants as answers
-use Rattle.severity.specs.Paper.{paperLot, paperEvent, paperRecord, paperStepped, keptOf}
+use Rattle.severity.specs.Paper.{lotPaper, eventPaper, recordPaper, steppedPaper, keptOf}
 
 -- normal, after an original lot or an order
 module _ (sc : ℕ) (st pe : Bool) where
@@ -59,10 +59,10 @@ window-bad scoreZero w t a e = let z : _≡_ {A = ℕ} 0 1 = cc in absurd (omega
 window-bad notAccepted w t a e = omega arith
 
 module _ (l : declared.Lot) (sc x : ℕ) where
-  pub score-three : l ≡ lots.AddThree → x ≡ min 30 (sc + 3) → x ≡ scoreAfter (paperLot l) sc
+  pub score-three : l ≡ lots.AddThree → x ≡ min 30 (sc + 3) → x ≡ scoreAfter (lotPaper l) sc
   score-three e q = rw e q
 
-  pub score-two : l ≡ lots.AddTwo → x ≡ min 30 (sc + 2) → x ≡ scoreAfter (paperLot l) sc
+  pub score-two : l ≡ lots.AddTwo → x ≡ min 30 (sc + 2) → x ≡ scoreAfter (lotPaper l) sc
   score-two e q = rw e q
 
 -- an original lot under normal inspection
@@ -176,31 +176,31 @@ module _ (r : Record) (s : ℕ) where
 -- by event
 module _ (r : Record) (e : declared-event.Event) where
   pub step-lot : (a : Answer Record) (o : declared-origin.Origin) (l : declared.Lot) → e ≡ events.Lot o l
-      → a ≡ onLot (r .severity) (paperLot l) r → a ≡ step r (paperEvent e)
+      → a ≡ onLot (r .severity) (lotPaper l) r → a ≡ step r (eventPaper e)
   unfolding step
   step-lot a o l f q = rw f q
 
   pub step-resubmitted : (a : Answer Record) → e ≡ events.Resubmitted → a ≡ onResubmitted (r .severity) r
-      → a ≡ step r (paperEvent e)
+      → a ≡ step r (eventPaper e)
   unfolding step
   step-resubmitted a f q = rw f q
 
   pub step-steady : (x : Record) (b : Bool) → e ≡ events.Steady b → x ≡ onOrder (r .severity) b b (r .permission) r
-      → given x ≡ step r (paperEvent e)
+      → given x ≡ step r (eventPaper e)
   unfolding step
   step-steady x b f q = rw f (ap given q)
 
   pub step-permission : (x : Record) (b : Bool) → e ≡ events.Permission b → x ≡ onOrder (r .severity) b (r .steady) b r
-      → given x ≡ step r (paperEvent e)
+      → given x ≡ step r (eventPaper e)
   unfolding step
   step-permission x b f q = rw f (ap given q)
 
   pub step-corrective : (a : Answer Record) → e ≡ events.Corrective → a ≡ onCorrective (r .severity) r
-      → a ≡ step r (paperEvent e)
+      → a ≡ step r (eventPaper e)
   unfolding step
   step-corrective a f q = rw f q
 
-  pub step-unknown : e ≡ events.Unknown → refused 1 0 ≡ step r (paperEvent e)
+  pub step-unknown : e ≡ events.Unknown → refused 1 0 ≡ step r (eventPaper e)
   unfolding step
   step-unknown f = rw f
 
@@ -258,7 +258,7 @@ module _ (r : Record) (s : ℕ) where
   range-tightened t q e = rw e q
 
 pub range-others : (r : Record) (s : ℕ) (t : Bool) → t ≡ (noScoreOrWindow r && noRunOrCount r) → (s ≡ 0 → ⊥)
-    → (s ≡ 1 → ⊥) → s < 4 → t ≡ figuresInRange s r
+    → (s ≡ 1 → ⊥) → s ≤ 3 → t ≡ figuresInRange s r
 unfolding figuresInRange
 range-others r zero t q e f h = absurd (e refl)
 range-others r (suc zero) t q e f h = absurd (f refl)
@@ -266,7 +266,7 @@ range-others r (suc (suc zero)) t q e f h = q
 range-others r (suc (suc (suc zero))) t q e f h = q
 range-others r (suc (suc (suc (suc s)))) t q e f h = absurd (omega arith)
 
-pub range-none : (r : Record) (s : ℕ) → 4 ≤ s → false ≡ figuresInRange s r
+pub range-none : (r : Record) (s : ℕ) → 3 < s → false ≡ figuresInRange s r
 unfolding figuresInRange
 range-none r zero h = absurd (omega arith)
 range-none r (suc zero) h = absurd (omega arith)
@@ -282,63 +282,35 @@ module _ (r : Record) (t : Bool) (answer : Answer Record) (q : t ≡ inRange r) 
   update-out e = rw (sym q ∙ e)
 
 -- the events of bytes
-pub byte-is : (x : Event) (b k : ℕ) → b ≡ k → x ≡ eventIn ours k → x ≡ eventIn ours b
-byte-is x b k e q = rw e q
+module _ (w : Work) (b : ℕ) where
+  pub byte-is : (x : Event) (k : ℕ) → b ≡ k → x ≡ cond (knows w k) (getD byteEvents k unknown) unknown → x ≡ eventIn w b
+  unfolding eventIn eventOf
+  byte-is x k e q = rw e q
 
-past-four : (b : ℕ) → (b ≡ 0 → ⊥) → (b ≡ 1 → ⊥) → (b ≡ 2 → ⊥) → (b ≡ 3 → ⊥) → (b ≡ 4 → ⊥) → 4 < b
-past-four b n0 n1 n2 n3 n4 = omega arith
+  pub byte-again : (x : Event) → b ≡ 4 → (a : Bool) → w .resubmission ≡ a → x ≡ cond a resubmitted unknown
+      → x ≡ eventIn w b
+  unfolding eventIn eventOf
+  byte-again x e a f q = rw (e, f) q
 
-past-nine : (b : ℕ) → 4 < b → (b ≡ 5 → ⊥) → (b ≡ 6 → ⊥) → (b ≡ 7 → ⊥) → (b ≡ 8 → ⊥) → (b ≡ 9 → ⊥) → 9 < b
-past-nine b h n5 n6 n7 n8 n9 = omega arith
+  past-four : (b ≡ 0 → ⊥) → (b ≡ 1 → ⊥) → (b ≡ 2 → ⊥) → (b ≡ 3 → ⊥) → (b ≡ 4 → ⊥) → 4 < b
+  past-four n0 n1 n2 n3 n4 = omega arith
 
-pub byte-unknown : (b : ℕ) → (b ≡ 0 → ⊥) → (b ≡ 1 → ⊥) → (b ≡ 2 → ⊥) → (b ≡ 3 → ⊥) → (b ≡ 4 → ⊥) → (b ≡ 5 → ⊥)
-    → (b ≡ 6 → ⊥) → (b ≡ 7 → ⊥) → (b ≡ 8 → ⊥) → (b ≡ 9 → ⊥) → unknown ≡ eventIn ours b
-unfolding eventIn
-byte-unknown b n0 n1 n2 n3 n4 n5 n6 n7 n8 n9 =
-    rw (lt-leb b 9 (past-nine b (past-four b n0 n1 n2 n3 n4) n5 n6 n7 n8 n9))
+  past-nine : 4 < b → (b ≡ 5 → ⊥) → (b ≡ 6 → ⊥) → (b ≡ 7 → ⊥) → (b ≡ 8 → ⊥) → (b ≡ 9 → ⊥) → 9 < b
+  past-nine h n5 n6 n7 n8 n9 = omega arith
 
--- how a closed lot counts
-module _ (s : ℕ) (a : Bool) (p : Lot) where
-  pub counts-points : a ≡ true → s ≡ 0 → p ≡ counted s a p
-  counts-points e f = rw (e, eq-eqb s 0 f)
+  pub byte-unknown : (b ≡ 0 → ⊥) → (b ≡ 1 → ⊥) → (b ≡ 2 → ⊥) → (b ≡ 3 → ⊥) → (b ≡ 4 → ⊥) → (b ≡ 5 → ⊥)
+      → (b ≡ 6 → ⊥) → (b ≡ 7 → ⊥) → (b ≡ 8 → ⊥) → (b ≡ 9 → ⊥) → unknown ≡ eventIn w b
+  unfolding eventIn
+  byte-unknown n0 n1 n2 n3 n4 n5 n6 n7 n8 n9 =
+      rw (lt-leb b 9 (past-nine (past-four n0 n1 n2 n3 n4) n5 n6 n7 n8 n9))
 
-  pub counts-zero : a ≡ true → (s ≡ 0 → ⊥) → scoreZero ≡ counted s a p
-  counts-zero e f = rw (e, ne-eqb s 0 f)
-
-  pub counts-bad : a ≡ false → notAccepted ≡ counted s a p
-  counts-bad e = rw e
-
-module _ (ac tighter total : ℕ) where
-  pub single-three : 2 ≤ ac → total ≤ tighter → addThree ≡ singlePoints ac tighter total
-  single-three h k = rw (le-leb 2 ac h, le-leb total tighter k)
-
-  pub single-zero : 2 ≤ ac → tighter < total → scoreZero ≡ singlePoints ac tighter total
-  single-zero h k = rw (le-leb 2 ac h, lt-leb total tighter k)
-
-  pub single-two : ac < 2 → addTwo ≡ singlePoints ac tighter total
-  single-two h = rw (lt-leb 2 ac h)
-
-module _ (stage stages : ℕ) where
-  pub staged-three : stage ≡ 1 → addThree ≡ stagedPoints stage stages
-  staged-three e = rw (eq-eqb stage 1 e)
-
-  pub staged-zero : (stage ≡ 1 → ⊥) → scoreZero ≡ stagedPoints stage stages
-  staged-zero e = rw (ne-eqb stage 1 e)
+pub ruleset bytes = (byte-is, byte-again, byte-unknown)
 
 -- the record that is kept
 module _ (a : declared-stepped.Stepped) (r : declared-record.Record) where
   pub kept-given : (t : declared-record.Record) → a ≡ answers.Given t
-      → paperRecord t ≡ keptOf (paperStepped a) (paperRecord r)
+      → recordPaper t ≡ keptOf (steppedPaper a) (recordPaper r)
   kept-given t e = rw e
 
-  pub kept-refused : (n k : ℕ) → a ≡ answers.Refused n k → paperRecord r ≡ keptOf (paperStepped a) (paperRecord r)
+  pub kept-refused : (n k : ℕ) → a ≡ answers.Refused n k → recordPaper r ≡ keptOf (steppedPaper a) (recordPaper r)
   kept-refused n k e = rw e
-
--- which case a call's answer is
-pub stepped-given : {m : declared-stepped.Stepped} {t : declared-record.Record} {a : Answer Record}
-    → m ≡ answers.Given t → paperStepped m ≡ a → given (paperRecord t) ≡ a
-stepped-given e q = ap paperStepped (sym e) ∙ q
-
-pub stepped-refused : {m : declared-stepped.Stepped} {n k : ℕ} {a : Answer Record}
-    → m ≡ answers.Refused n k → paperStepped m ≡ a → refused n k ≡ a
-stepped-refused e q = ap paperStepped (sym e) ∙ q

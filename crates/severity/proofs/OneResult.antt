@@ -1,20 +1,31 @@
--- Each promise of a public function admits one result, and one state of the memory that is lent.
+-- Each promise of a public function admits one result, and one state of the memory that is lent: document 01's value
+-- tells the code's.
 -- Assumes nothing.
-use Prim.Native.Nat.{ℕ}
 use mathlib.Core.Path.{_≡_, refl, sym, ap, _∙_}
-use mathlib.Core.List.{List}
 use Rattle.rules.specs.Refusals.{Answer}
 use Rattle.rules.specs.Severity as paper
+use Rattle.rules.specs.History as histories
+use Rattle.rules.proofs.Answers.{refused-given, given-one, read-back}
+use Rattle.severity.specs.declared.Work.{Work}
 use Rattle.severity.specs.declared.Record.{Record}
 use Rattle.severity.specs.declared.Lot.{Lot}
 use Rattle.severity.specs.declared.Lot.the-variants.{AddThree, AddTwo, ScoreZero, NotAccepted}
+use Rattle.severity.specs.declared.Origin.{Origin}
+use Rattle.severity.specs.declared.Origin.the-variants.{Typed, Sampled}
 use Rattle.severity.specs.declared.Event.{Event}
+use Rattle.severity.specs.declared.Event.the-variants as event
 use Rattle.severity.specs.declared.Stepped.{Stepped}
 use Rattle.severity.specs.declared.Stepped.the-variants as stepped
-use Rattle.severity.specs.declared.Listed.{Listed}
-use Rattle.severity.specs.declared.Listed.the-variants as listing
-use Rattle.severity.specs.Paper.{paperLot, paperRecord, paperStepped, paperListed, keptOf, Closes, Lists}
-use Rattle.rules.proofs.Answers.{refused-given, given-one, read-back}
+use Rattle.severity.specs.Paper.{workPaper, lotPaper, originPaper, eventPaper, recordPaper, steppedPaper, keptOf}
+use Rattle.severity.specs.Paper.{Closes}
+
+workBack : histories.Work → Work
+workBack w = record { permission = w .permission; resubmission = w .resubmission }
+
+-- of ours
+pub work-one : (a b : Work) → workPaper a ≡ workPaper b → a ≡ b
+unfolding workBack
+work-one a b e = ap workBack e
 
 recordBack : paper.Record → Record
 recordBack r =
@@ -29,7 +40,7 @@ recordBack r =
     }
 
 -- of fresh
-pub record-one : (a b : Record) → paperRecord a ≡ paperRecord b → a ≡ b
+pub record-one : (a b : Record) → recordPaper a ≡ recordPaper b → a ≡ b
 unfolding recordBack
 record-one a b e = ap recordBack e
 
@@ -39,40 +50,55 @@ lotBack paper.addTwo = AddTwo
 lotBack paper.scoreZero = ScoreZero
 lotBack paper.notAccepted = NotAccepted
 
-lot-back : (a : Lot) → lotBack (paperLot a) ≡ a
+lot-back : (a : Lot) → lotBack (lotPaper a) ≡ a
 unfolding lotBack
 lot-back AddThree = refl
 lot-back AddTwo = refl
 lot-back ScoreZero = refl
 lot-back NotAccepted = refl
 
--- of single_counts and staged_counts
-pub lot-one : (a b : Lot) → paperLot a ≡ paperLot b → a ≡ b
-lot-one = read-back paperLot lotBack lot-back
+originBack : paper.Origin → Origin
+originBack paper.typed = Typed
+originBack paper.sampled = Sampled
 
--- of step, update and next
-pub stepped-one : (a b : Stepped) → paperStepped a ≡ paperStepped b → a ≡ b
+origin-back : (a : Origin) → originBack (originPaper a) ≡ a
+unfolding originBack
+origin-back Typed = refl
+origin-back Sampled = refl
+
+eventBack : paper.Event → Event
+eventBack (paper.lot o l) = event.Lot (originBack o) (lotBack l)
+eventBack paper.resubmitted = event.Resubmitted
+eventBack (paper.steadyIs b) = event.Steady b
+eventBack (paper.permissionIs b) = event.Permission b
+eventBack paper.corrective = event.Corrective
+eventBack paper.unknown = event.Unknown
+
+event-back : (a : Event) → eventBack (eventPaper a) ≡ a
+unfolding eventBack
+event-back (event.Lot o l) = rw (origin-back o, lot-back l)
+event-back event.Resubmitted = refl
+event-back (event.Steady b) = refl
+event-back (event.Permission b) = refl
+event-back event.Corrective = refl
+event-back event.Unknown = refl
+
+-- of functions that answer an event
+pub event-one : (a b : Event) → eventPaper a ≡ eventPaper b → a ≡ b
+event-one = read-back eventPaper eventBack event-back
+
+-- of update, next and step_byte
+pub stepped-one : (a b : Stepped) → steppedPaper a ≡ steppedPaper b → a ≡ b
 stepped-one (stepped.Refused n k) (stepped.Refused m j) e = cc
 stepped-one (stepped.Refused n k) (stepped.Given s) e = absurd (refused-given e)
 stepped-one (stepped.Given r) (stepped.Refused m j) e = absurd (refused-given (sym e))
 stepped-one (stepped.Given r) (stepped.Given s) e = ap stepped.Given (record-one r s (given-one e))
 
-pub listed-one : (a b : Listed) → paperListed a ≡ paperListed b → a ≡ b
-listed-one (listing.Refused n k) (listing.Refused m j) e = cc
-listed-one (listing.Refused n k) (listing.Given m) e = absurd (refused-given e)
-listed-one (listing.Given n) (listing.Refused m j) e = absurd (refused-given (sym e))
-listed-one (listing.Given n) (listing.Given m) e = cc
-
 -- of close_lot: the answer, and the lent record
 pub closes-one : (old : Record) (e : Event) (new new′ : Record) (r r′ : Stepped) → Closes old e new r
     → Closes old e new′ r′ → (r ≡ r′) × (new ≡ new′)
 closes-one old e new new′ r r′ c d =
-    let f : paperStepped r ≡ paperStepped r′ = c .answer ∙ sym (d .answer) in (
+    let f : steppedPaper r ≡ steppedPaper r′ = c .answer ∙ sym (d .answer) in (
       stepped-one r r′ f,
-      record-one new new′ (c .left ∙ (ap (λ (a : Answer paper.Record). keptOf a (paperRecord old)) f ∙ sym (d .left))),
+      record-one new new′ (c .left ∙ (ap (λ (a : Answer paper.Record). keptOf a (recordPaper old)) f ∙ sym (d .left))),
     )
-
--- of list_severities: the answer, and the lent buffer
-pub lists-one : (h out last last′ : List ℕ) (r r′ : Listed) → Lists h out last r → Lists h out last′ r′
-    → (r ≡ r′) × (last ≡ last′)
-lists-one h out last last′ r r′ c d = (listed-one r r′ (c .answer ∙ sym (d .answer)), c .buffer ∙ sym (d .buffer))

@@ -1,16 +1,39 @@
-// The severity record of one supply: what each event makes of it, by value and lent, and the severities of a history.
+// The severity record of one supply, and what each event makes of it: by value, by its history byte, and lent.
 ghost use mathlib.Core.Path.{_≡_};
-ghost use mathlib.Core.Bool.{true, _&&_};
+ghost use mathlib.Core.Bool.{_&&_};
 ghost use Prim.Native.Nat.{_+_, _≤_, min};
 ghost use lib.Dec.{eqb};
 ghost use Rattle.rules.specs.Severity.{accepted, started, fresh, due, settled, scoreAfter, windowAfter, lotNormal};
 ghost use Rattle.rules.specs.Severity.{lotTightened, onLot, onResubmitted, onOrder, onCorrective, step, inRange};
 ghost use Rattle.rules.specs.Severity.{onNormal, onTightened, scoreAndWindow, noScoreOrWindow, runAndCount};
-ghost use Rattle.rules.specs.Severity.{noRunOrCount, counted, singlePoints, stagedPoints};
-ghost use Rattle.rules.specs.History.{ours, eventIn};
+ghost use Rattle.rules.specs.Severity.{noRunOrCount};
+ghost use Rattle.rules.specs.History.{ours, eventIn, byteOfLot, byteOf};
 ghost use Rattle.rules.specs.Entries.{onRecord, next};
-ghost use Rattle.severity.specs.Paper.{paperLot, paperEvent, paperRecord, paperStepped};
-ghost use Rattle.severity.specs.Paper.{keptOf, Closes, Writable, Walks, Lists};
+ghost use Rattle.severity.specs.Paper.{workPaper, lotPaper, eventPaper, recordPaper, steppedPaper, keptOf};
+ghost use Rattle.severity.specs.Paper.{Closes};
+
+// The severities.
+const NORMAL: u8 = 0;
+
+const TIGHTENED: u8 = 1;
+
+const REDUCED: u8 = 2;
+
+const STOPPED: u8 = 3;
+
+// The refusals that an event can meet.
+const UNKNOWN_FORM: u8 = 1;
+
+const WHILE_STOPPED: u8 = 5;
+
+const NOT_STOPPED: u8 = 10;
+
+// The work that a supply's history belongs to: the permission that its start names, and whether it knows resubmitted
+// lots.
+pub struct Work {
+    pub permission: bool,
+    pub resubmission: bool,
+}
 
 // The window is five bits, the newest lot in the lowest, 1 for a lot not accepted. No two figures stand side by side:
 // the compiler would keep them as one wide number, and take it apart at every step.
@@ -53,15 +76,9 @@ pub enum Stepped {
     Given(Record),
 }
 
-// How many severities were written, or a refusal.
-pub enum Listed {
-    Refused(u8, usize),
-    Given(usize),
-}
-
 // Reduced or stopped, which keep no figure.
 fn start(severity: u8, steady: bool, permission: bool) -> Record
-    ensures { λ r. ⌜ paperRecord r ≡ started severity steady permission ⌝ }
+    ensures { λ r. ⌜ recordPaper r ≡ started severity steady permission ⌝ }
 {
     Record {
         severity,
@@ -74,11 +91,11 @@ fn start(severity: u8, steady: bool, permission: bool) -> Record
     }
 }
 
-fn normal(score: u8, window: u8, steady: bool, permission: bool) -> Record
-    ensures { λ r. ⌜ paperRecord r ≡ onNormal score window steady permission ⌝ }
+fn on_normal(score: u8, window: u8, steady: bool, permission: bool) -> Record
+    ensures { λ r. ⌜ recordPaper r ≡ onNormal score window steady permission ⌝ }
 {
     Record {
-        severity: 0,
+        severity: NORMAL,
         score,
         run: 0,
         count: 0,
@@ -88,11 +105,11 @@ fn normal(score: u8, window: u8, steady: bool, permission: bool) -> Record
     }
 }
 
-fn tightened(run: u8, count: u8, steady: bool, permission: bool) -> Record
-    ensures { λ r. ⌜ paperRecord r ≡ onTightened run count steady permission ⌝ }
+fn on_tightened(run: u8, count: u8, steady: bool, permission: bool) -> Record
+    ensures { λ r. ⌜ recordPaper r ≡ onTightened run count steady permission ⌝ }
 {
     Record {
-        severity: 1,
+        severity: TIGHTENED,
         score: 0,
         run,
         count,
@@ -102,10 +119,20 @@ fn tightened(run: u8, count: u8, steady: bool, permission: bool) -> Record
     }
 }
 
-pub fn fresh() -> Record
-    ensures { λ r. ⌜ paperRecord r ≡ fresh (ours .permission) ⌝ }
+// "Starts: .. permission no", and every byte of the list is known.
+pub fn ours() -> Work
+    ensures { λ r. ⌜ workPaper r ≡ ours ⌝ }
 {
-    normal(0, 0, false, false)
+    Work {
+        permission: false,
+        resubmission: true,
+    }
+}
+
+pub fn fresh(work: Work) -> Record
+    ensures { λ r. ⌜ recordPaper r ≡ fresh (work .permission) ⌝ }
+{
+    on_normal(0, 0, false, work.permission)
 }
 
 fn is_due(score: u8, steady: bool, permission: bool) -> bool
@@ -122,16 +149,16 @@ fn is_due(score: u8, steady: bool, permission: bool) -> bool
 
 // Normal after an original lot or an order.
 fn settle(score: u8, window: u8, steady: bool, permission: bool) -> Record
-    ensures { λ r. ⌜ paperRecord r ≡ settled score window steady permission ⌝ }
+    ensures { λ r. ⌜ recordPaper r ≡ settled score window steady permission ⌝ }
 {
     if is_due(score, steady, permission) {
-        return start(2, steady, permission);
+        return start(REDUCED, steady, permission);
     }
-    normal(score, window, steady, permission)
+    on_normal(score, window, steady, permission)
 }
 
 fn is_accepted(lot: Lot) -> bool
-    ensures { λ r. ⌜ r ≡ accepted (paperLot lot) ⌝ }
+    ensures { λ r. ⌜ r ≡ accepted (lotPaper lot) ⌝ }
 {
     match lot {
         Lot::NotAccepted => false,
@@ -141,7 +168,7 @@ fn is_accepted(lot: Lot) -> bool
     }
 }
 
-fn cut(score: u8, points: u8) -> u8
+fn add_points(score: u8, points: u8) -> u8
     requires { ⌜ points ≤ 30 ⌝ }
     ensures { λ r. ⌜ r ≡ min 30 (score + points) ⌝ }
 {
@@ -153,18 +180,18 @@ fn cut(score: u8, points: u8) -> u8
 }
 
 fn score_after(lot: Lot, score: u8) -> u8
-    ensures { λ r. ⌜ r ≡ scoreAfter (paperLot lot) score ⌝ }
+    ensures { λ r. ⌜ r ≡ scoreAfter (lotPaper lot) score ⌝ }
 {
     match lot {
-        Lot::AddThree => cut(score, 3),
-        Lot::AddTwo => cut(score, 2),
+        Lot::AddThree => add_points(score, 3),
+        Lot::AddTwo => add_points(score, 2),
         Lot::ScoreZero => 0,
         Lot::NotAccepted => 0,
     }
 }
 
 fn window_after(lot: Lot, window: u8) -> u8
-    ensures { λ r. ⌜ r ≡ windowAfter (paperLot lot) window ⌝ }
+    ensures { λ r. ⌜ r ≡ windowAfter (lotPaper lot) window ⌝ }
 {
     let shifted = 2 * (window % 16);
     if is_accepted(lot) {
@@ -174,91 +201,91 @@ fn window_after(lot: Lot, window: u8) -> u8
 }
 
 fn lot_normal(lot: Lot, score: u8, window: u8, steady: bool, permission: bool) -> Record
-    ensures { λ r. ⌜ paperRecord r ≡ lotNormal (paperLot lot) score window steady permission ⌝ }
+    ensures { λ r. ⌜ recordPaper r ≡ lotNormal (lotPaper lot) score window steady permission ⌝ }
 {
     let shifted = window_after(lot, window);
     if is_accepted(lot) {
         return settle(score_after(lot, score), shifted, steady, permission);
     }
     if 2 <= u8::count_ones(shifted) {
-        return tightened(0, 0, steady, permission);
+        return on_tightened(0, 0, steady, permission);
     }
     settle(0, shifted, steady, permission)
 }
 
 fn lot_tightened(lot: Lot, run: u8, count: u8, steady: bool, permission: bool) -> Record
-    ensures { λ r. ⌜ paperRecord r ≡ lotTightened (paperLot lot) run count steady permission ⌝ }
+    ensures { λ r. ⌜ recordPaper r ≡ lotTightened (lotPaper lot) run count steady permission ⌝ }
 {
     if is_accepted(lot) {
         if 4 <= run {
-            return normal(0, 0, steady, permission);
+            return on_normal(0, 0, steady, permission);
         }
-        return tightened(run + 1, count, steady, permission);
+        return on_tightened(run + 1, count, steady, permission);
     }
     if 4 <= count {
-        return start(3, steady, permission);
+        return start(STOPPED, steady, permission);
     }
-    tightened(0, count + 1, steady, permission)
+    on_tightened(0, count + 1, steady, permission)
 }
 
 fn on_lot(old: Record, lot: Lot) -> Stepped
-    ensures { λ r. ⌜ paperStepped r ≡ onLot (old .severity) (paperLot lot) (paperRecord old) ⌝ }
+    ensures { λ r. ⌜ steppedPaper r ≡ onLot (old .severity) (lotPaper lot) (recordPaper old) ⌝ }
 {
-    if old.severity == 0 {
+    if old.severity == NORMAL {
         return Stepped::Given(lot_normal(lot, old.score, old.window, old.steady, old.permission));
     }
-    if old.severity == 1 {
+    if old.severity == TIGHTENED {
         return Stepped::Given(lot_tightened(lot, old.run, old.count, old.steady, old.permission));
     }
-    if old.severity == 2 {
+    if old.severity == REDUCED {
         if is_accepted(lot) {
             return Stepped::Given(old);
         }
-        return Stepped::Given(normal(0, 0, old.steady, old.permission));
+        return Stepped::Given(on_normal(0, 0, old.steady, old.permission));
     }
-    Stepped::Refused(5, 0)
+    Stepped::Refused(WHILE_STOPPED, 0)
 }
 
 fn on_resubmitted(old: Record) -> Stepped
-    ensures { λ r. ⌜ paperStepped r ≡ onResubmitted (old .severity) (paperRecord old) ⌝ }
+    ensures { λ r. ⌜ steppedPaper r ≡ onResubmitted (old .severity) (recordPaper old) ⌝ }
 {
-    if 3 <= old.severity {
-        return Stepped::Refused(5, 0);
+    if STOPPED <= old.severity {
+        return Stepped::Refused(WHILE_STOPPED, 0);
     }
     Stepped::Given(old)
 }
 
 // An order that leaves steady and permission so; where `stands` is false it withdraws.
 fn on_order(old: Record, stands: bool, steady: bool, permission: bool) -> Record
-    ensures { λ r. ⌜ paperRecord r ≡ onOrder (old .severity) stands steady permission (paperRecord old) ⌝ }
+    ensures { λ r. ⌜ recordPaper r ≡ onOrder (old .severity) stands steady permission (recordPaper old) ⌝ }
 {
-    if old.severity == 0 {
+    if old.severity == NORMAL {
         return settle(old.score, old.window, steady, permission);
     }
-    if old.severity == 1 {
-        return tightened(old.run, old.count, steady, permission);
+    if old.severity == TIGHTENED {
+        return on_tightened(old.run, old.count, steady, permission);
     }
-    if old.severity == 2 {
+    if old.severity == REDUCED {
         if stands {
-            return start(2, steady, permission);
+            return start(REDUCED, steady, permission);
         }
-        return normal(0, 0, steady, permission);
+        return on_normal(0, 0, steady, permission);
     }
-    start(3, steady, permission)
+    start(STOPPED, steady, permission)
 }
 
 fn on_corrective(old: Record) -> Stepped
-    ensures { λ r. ⌜ paperStepped r ≡ onCorrective (old .severity) (paperRecord old) ⌝ }
+    ensures { λ r. ⌜ steppedPaper r ≡ onCorrective (old .severity) (recordPaper old) ⌝ }
 {
-    if 3 <= old.severity {
-        return Stepped::Given(tightened(0, 0, old.steady, old.permission));
+    if STOPPED <= old.severity {
+        return Stepped::Given(on_tightened(0, 0, old.steady, old.permission));
     }
-    Stepped::Refused(10, 0)
+    Stepped::Refused(NOT_STOPPED, 0)
 }
 
 // What an event makes of a record, in range or not.
-pub fn step(old: Record, event: Event) -> Stepped
-    ensures { λ r. ⌜ paperStepped r ≡ step (paperRecord old) (paperEvent event) ⌝ }
+fn step(old: Record, event: Event) -> Stepped
+    ensures { λ r. ⌜ steppedPaper r ≡ step (recordPaper old) (eventPaper event) ⌝ }
 {
     match event {
         Event::Lot(_, lot) => on_lot(old, lot),
@@ -266,7 +293,7 @@ pub fn step(old: Record, event: Event) -> Stepped
         Event::Steady(stands) => Stepped::Given(on_order(old, stands, stands, old.permission)),
         Event::Permission(stands) => Stepped::Given(on_order(old, stands, old.steady, stands)),
         Event::Corrective => on_corrective(old),
-        Event::Unknown => Stepped::Refused(1, 0),
+        Event::Unknown => Stepped::Refused(UNKNOWN_FORM, 0),
     }
 }
 
@@ -280,7 +307,7 @@ fn both_zero(a: u8, b: u8) -> bool
 }
 
 fn normal_in_range(old: Record) -> bool
-    ensures { λ r. ⌜ r ≡ (scoreAndWindow (paperRecord old) && noRunOrCount (paperRecord old)) ⌝ }
+    ensures { λ r. ⌜ r ≡ (scoreAndWindow (recordPaper old) && noRunOrCount (recordPaper old)) ⌝ }
 {
     if 30 < old.score {
         return false;
@@ -295,7 +322,7 @@ fn normal_in_range(old: Record) -> bool
 }
 
 fn tightened_in_range(old: Record) -> bool
-    ensures { λ r. ⌜ r ≡ (runAndCount (paperRecord old) && noScoreOrWindow (paperRecord old)) ⌝ }
+    ensures { λ r. ⌜ r ≡ (runAndCount (recordPaper old) && noScoreOrWindow (recordPaper old)) ⌝ }
 {
     if 4 < old.run {
         return false;
@@ -307,7 +334,7 @@ fn tightened_in_range(old: Record) -> bool
 }
 
 fn without_figures(old: Record) -> bool
-    ensures { λ r. ⌜ r ≡ (noScoreOrWindow (paperRecord old) && noRunOrCount (paperRecord old)) ⌝ }
+    ensures { λ r. ⌜ r ≡ (noScoreOrWindow (recordPaper old) && noRunOrCount (recordPaper old)) ⌝ }
 {
     if both_zero(old.score, old.window) {
         return both_zero(old.run, old.count);
@@ -316,40 +343,45 @@ fn without_figures(old: Record) -> bool
 }
 
 pub fn in_range(old: Record) -> bool
-    ensures { λ r. ⌜ r ≡ inRange (paperRecord old) ⌝ }
+    ensures { λ r. ⌜ r ≡ inRange (recordPaper old) ⌝ }
 {
-    if old.severity == 0 {
+    if old.severity == NORMAL {
         return normal_in_range(old);
     }
-    if old.severity == 1 {
+    if old.severity == TIGHTENED {
         return tightened_in_range(old);
     }
-    if old.severity < 4 {
+    if old.severity <= STOPPED {
         return without_figures(old);
     }
     false
 }
 
-// What an event makes of a lent old.
+// What an event makes of a record that a caller hands over: one out of range is refused.
 pub fn update(old: Record, event: Event) -> Stepped
-    ensures { λ r. ⌜ paperStepped r ≡ onRecord (paperRecord old) (step (paperRecord old) (paperEvent event)) ⌝ }
+    ensures { λ r. ⌜ steppedPaper r ≡ onRecord (recordPaper old) (step (recordPaper old) (eventPaper event)) ⌝ }
 {
     if in_range(old) {
         return step(old, event);
     }
-    Stepped::Refused(1, 0)
+    Stepped::Refused(UNKNOWN_FORM, 0)
 }
 
 // The event of a history byte.
-fn event_of(byte: u32) -> Event
-    ensures { λ r. ⌜ paperEvent r ≡ eventIn ours byte ⌝ }
+fn event_of(work: Work, byte: u32) -> Event
+    ensures { λ r. ⌜ eventPaper r ≡ eventIn (workPaper work) byte ⌝ }
 {
     match byte {
         0 => Event::Lot(Origin::Typed, Lot::AddThree),
         1 => Event::Lot(Origin::Typed, Lot::AddTwo),
         2 => Event::Lot(Origin::Typed, Lot::ScoreZero),
         3 => Event::Lot(Origin::Typed, Lot::NotAccepted),
-        4 => Event::Resubmitted,
+        4 => {
+            if work.resubmission {
+                return Event::Resubmitted;
+            }
+            Event::Unknown
+        }
         5 => Event::Steady(true),
         6 => Event::Steady(false),
         7 => Event::Permission(true),
@@ -359,111 +391,58 @@ fn event_of(byte: u32) -> Event
     }
 }
 
-// What a history byte makes of a lent old.
-pub fn next(old: Record, byte: u32) -> Stepped
-    ensures { λ r. ⌜ paperStepped r ≡ next ours (paperRecord old) byte ⌝ }
+fn byte_of_lot(lot: Lot) -> u8
+    ensures { λ r. ⌜ r ≡ byteOfLot (lotPaper lot) ⌝ }
 {
-    update(old, event_of(byte))
+    match lot {
+        Lot::AddThree => 0,
+        Lot::AddTwo => 1,
+        Lot::ScoreZero => 2,
+        Lot::NotAccepted => 3,
+    }
 }
 
-fn step_byte(old: Record, byte: u8) -> Stepped
-    ensures { λ r. ⌜ paperStepped r ≡ step (paperRecord old) (eventIn ours byte) ⌝ }
+// The history byte of an event, or 10 for one that has none.
+pub fn byte_of(event: Event) -> u8
+    ensures { λ r. ⌜ r ≡ byteOf (eventPaper event) ⌝ }
 {
-    step(old, event_of(byte as u32))
-}
-
-// A history that goes on from a record, checked or written: one loop for both, so that the step is compiled into it.
-fn walk_history(history: &[u8], out: &mut [u8], from: Record, writes: bool) -> Listed
-    requires { ⌜ (writes ≡ true → Writable (paperRecord from) (now history) (now out)) ⌝ }
-    ensures { λ r. ⌜ Walks (paperRecord from) (now (history .entry)) writes (now (out .entry)) (now (out .exit)) r ⌝ }
-{
-    let mut held = from;
-    let mut i: usize = 0;
-    while i < history.len() {
-        let answer = step_byte(held, history[i]);
-        match answer {
-            Stepped::Given(new) => {
-                held = new;
+    match event {
+        Event::Lot(_, lot) => byte_of_lot(lot),
+        Event::Resubmitted => 4,
+        Event::Steady(stands) => {
+            if stands {
+                return 5;
             }
-            Stepped::Refused(number, _) => {
-                return Listed::Refused(number, i);
+            6
+        }
+        Event::Permission(stands) => {
+            if stands {
+                return 7;
             }
+            8
         }
-        if writes {
-            out[i] = held.severity;
-        }
-        i += 1;
-    }
-    Listed::Given(i)
-}
-
-// "From a fresh record, the severity after each byte is written to a lent buffer, the rest of which stays."
-pub fn list_severities(history: &[u8], out: &mut [u8]) -> Listed
-    ensures { λ r. ⌜ Lists (now (history .entry)) (now (out .entry)) (now (out .exit)) r ⌝ }
-{
-    let first = fresh();
-    let checked = walk_history(history, out, first, false);
-    match checked {
-        Listed::Refused(number, place) => Listed::Refused(number, place),
-        Listed::Given(count) => {
-            if out.len() < count {
-                return Listed::Refused(11, 0);
-            }
-            walk_history(history, out, first, true)
-        }
+        Event::Corrective => 9,
+        Event::Unknown => 10,
     }
 }
 
-fn counts(severity: u8, accepted: bool, points: Lot) -> Lot
-    ensures { λ r. ⌜ paperLot r ≡ counted severity accepted (paperLot points) ⌝ }
+// What a history byte makes of a record that a caller hands over.
+pub fn next(work: Work, old: Record, byte: u32) -> Stepped
+    ensures { λ r. ⌜ steppedPaper r ≡ next (workPaper work) (recordPaper old) byte ⌝ }
 {
-    if accepted {
-        if severity == 0 {
-            return points;
-        }
-        return Lot::ScoreZero;
-    }
-    Lot::NotAccepted
+    update(old, event_of(work, byte))
 }
 
-fn single_points(ac: u32, tighter: u32, total: u64) -> Lot
-    ensures { λ r. ⌜ paperLot r ≡ singlePoints ac tighter total ⌝ }
+// A part for the list, whose records are in range: a test at each byte would cost it.
+pub fn step_byte(work: Work, old: Record, byte: u8) -> Stepped
+    ensures { λ r. ⌜ steppedPaper r ≡ step (recordPaper old) (eventIn (workPaper work) byte) ⌝ }
 {
-    if 2 <= ac {
-        if total <= tighter as u64 {
-            return Lot::AddThree;
-        }
-        return Lot::ScoreZero;
-    }
-    Lot::AddTwo
-}
-
-fn staged_points(stage: u32, stages: u32) -> Lot
-    ensures { λ r. ⌜ paperLot r ≡ stagedPoints stage stages ⌝ }
-{
-    if stage == 1 {
-        return Lot::AddThree;
-    }
-    Lot::ScoreZero
-}
-
-// How a lot on a single plan counts: `tighter` is the Ac one column tighter at the letter that gives the size.
-pub fn single_counts(severity: u8, accepted: bool, ac: u32, tighter: u32, total: u64) -> Lot
-    ensures { λ r. ⌜ paperLot r ≡ counted severity accepted (singlePoints ac tighter total) ⌝ }
-{
-    counts(severity, accepted, single_points(ac, tighter, total))
-}
-
-// How a lot on a staged plan counts, by the stage that decided and how many there are.
-pub fn staged_counts(severity: u8, accepted: bool, stage: u32, stages: u32) -> Lot
-    ensures { λ r. ⌜ paperLot r ≡ counted severity accepted (stagedPoints stage stages) ⌝ }
-{
-    counts(severity, accepted, staged_points(stage, stages))
+    step(old, event_of(work, byte as u32))
 }
 
 // The record to keep after an answer: a refusal leaves it as it was.
 fn kept(answer: Stepped, old: Record) -> Record
-    ensures { λ r. ⌜ paperRecord r ≡ keptOf (paperStepped answer) (paperRecord old) ⌝ }
+    ensures { λ r. ⌜ recordPaper r ≡ keptOf (steppedPaper answer) (recordPaper old) ⌝ }
 {
     match answer {
         Stepped::Given(new) => new,

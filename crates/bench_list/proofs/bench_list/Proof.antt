@@ -1,10 +1,13 @@
 -- `bench_list::bench_list` meets its contract.
 -- Assumes nothing.
-use Rattle.severity.specs.declared.Listed.the-variants.{Refused, Given}
+use Rattle.history.specs.declared.Listed.the-variants.{Refused, Given}
 use Rattle.bench_list.proofs.Told.{told}
 use borrow.Author.Needs.{needs}
 use Rattle.bench_list.proofs.bench_list.Statement.{statement}
 use Rattle.bench_list.proofs.bench_list.Tie as tie
+
+ours-requires : tie.Need-ours-requires
+ours-requires c κs = search needs
 
 list-severities-requires : tie.Need-list-severities-requires
 list-severities-requires c κs = search needs
@@ -23,19 +26,20 @@ same-length c = search needs
 
 returns : tie.Need-returns
 returns c =
-    told (Refused _ _) (c .before .listed .given .1)
+    told (Refused _ _) (c .before .before .before .before .before .before .before .ours .ensures) (c .before .listed .given .1)
     (c .before .before .before .before .before .list-severities .ensures)
 
 same-length-2 : tie.Need-same-length-2
 same-length-2 c = search needs
 
 returns-2 : tie.Need-returns-2
-returns-2 c = told (Given _) (c .enum-told .given .1) (c .before .before .before .before .list-severities .ensures)
+returns-2 c = told (Given _) (c .before .before .before .before .before .before .ours .ensures) (c .enum-told .given .1) (c .before .before .before .before .list-severities .ensures)
 
 pub bench-list-spec : {M : Type 1} → statement M
 bench-list-spec =
     tie.close
     (tie.spec
+    ours-requires
     list-severities-requires
     enum-known-listed
     cast-result

@@ -44,7 +44,7 @@ use denote.Triple.Clauses.{ensured, lasts}
 use denote.Exit.{yes}
 use Rattle.rules.specs.Severity.{step}
 use Rattle.rules.specs.Entries.{onRecord}
-use Rattle.severity.specs.Paper.{paperRecord, paperEvent, paperStepped, keptOf, Closes}
+use Rattle.severity.specs.Paper.{recordPaper, eventPaper, steppedPaper, keptOf, Closes}
 use Rattle.severity.specs.declared.Record.{Record}
 use Rattle.severity.specs.declared.Event.{Event}
 use Rattle.severity.specs.declared.Stepped.{Stepped}
@@ -81,11 +81,11 @@ val = EL.val E.the-type E′.the-laws
 
 -- what `update` ensures
 abbrev Updates : Record → Event → Stepped → Type 0
-Updates h e a = paperStepped a ≡ onRecord (paperRecord h) (step (paperRecord h) (paperEvent e))
+Updates h e a = steppedPaper a ≡ onRecord (recordPaper h) (step (recordPaper h) (eventPaper e))
 
 -- what `kept` ensures
 abbrev Keeps : Stepped → Record → Record → Type 0
-Keeps a h r = paperRecord r ≡ keptOf (paperStepped a) (paperRecord h)
+Keeps a h r = recordPaper r ≡ keptOf (steppedPaper a) (recordPaper h)
 
 module _ {M : Type 1} (𝓤 : URA M) (H : Heap 𝓤) (A : Atoms 𝓤) (mem : Memory → SProp 𝓤) (run : Routine → Fun 𝓤) where
   abbrev Update : Contract 𝓤

@@ -3,14 +3,8 @@ use borrow.Author.Needs.{needs}
 use Rattle.severity.proofs.step_byte.Statement.{statement}
 use Rattle.severity.proofs.step_byte.Tie as tie
 
-event-of-requires : tie.Need-event-of-requires
-event-of-requires c κs = search needs
-
-step-requires : tie.Need-step-requires
-step-requires c κs = search needs
-
 returns : tie.Need-returns
 returns c = rw (← c .before .event-of .ensures) (c .step .ensures)
 
 pub step-byte-spec : {M : Type 1} → statement M
-step-byte-spec = tie.close (tie.spec event-of-requires step-requires returns)
+step-byte-spec = tie.close (tie.spec (λ c κs. search needs) (λ c κs. search needs) returns)

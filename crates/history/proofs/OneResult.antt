@@ -1,0 +1,21 @@
+-- The list's promise admits one result, and one state of the buffer that is lent.
+-- Assumes nothing.
+use Prim.Native.Nat.{ℕ}
+use mathlib.Core.Path.{_≡_, sym, _∙_}
+use mathlib.Core.List.{List}
+use Rattle.rules.specs.History.{Work}
+use Rattle.rules.proofs.Answers.{refused-given}
+use Rattle.history.specs.declared.Listed.{Listed}
+use Rattle.history.specs.declared.Listed.the-variants.{Refused, Given}
+use Rattle.history.specs.Paper.{listedPaper, Lists}
+
+pub listed-one : (a b : Listed) → listedPaper a ≡ listedPaper b → a ≡ b
+listed-one (Refused n k) (Refused m j) e = cc
+listed-one (Refused n k) (Given m) e = absurd (refused-given e)
+listed-one (Given n) (Refused m j) e = absurd (refused-given (sym e))
+listed-one (Given n) (Given m) e = cc
+
+-- of list_severities: the answer, and the lent buffer
+pub lists-one : (w : Work) (h out last last′ : List ℕ) (r r′ : Listed) → Lists w h out last r → Lists w h out last′ r′
+    → (r ≡ r′) × (last ≡ last′)
+lists-one w h out last last′ r r′ c d = (listed-one r r′ (c .answer ∙ sym (d .answer)), c .buffer ∙ sym (d .buffer))

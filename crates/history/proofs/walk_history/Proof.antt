@@ -1,0 +1,52 @@
+-- `history::walk_history` meets its contract. Assumes nothing.
+use Prim.Native.Nat.{_≤_, _-_}
+use mathlib.Core.Path.{_≡_, ap, _∙_}
+use mathlib.Core.Logic.{⊎-elim}
+use lib.ListN.{length}
+use borrow.Author.Needs.{needs}
+use Rattle.rules.specs.Refusals.{given}
+use Rattle.rules.proofs.Histories.{From, from-first, from-given}
+use Rattle.severity.specs.Paper.{workPaper, recordPaper}
+use Rattle.history.specs.Paper.{walkedFrom}
+use Rattle.history.proofs.Walk.{stepped-given, stepped-refused, walked-first, walked-bad, walked-more}
+use Rattle.history.proofs.Walk.{walked-on, walked-whole}
+use Rattle.history.proofs.walk_history.Statement.{statement}
+use Rattle.history.proofs.walk_history.Tie as tie
+
+abbrev Inv-loop : tie.InvT-loop
+Inv-loop work history out₀ writes held₀ i₀ out held i =
+    (i ≤ length history)
+    × (From (workPaper work) history (recordPaper held₀) i ≡ given (recordPaper held))
+    × (out ≡ walkedFrom (workPaper work) (recordPaper held₀) history writes out₀ i)
+    × (length out ≡ length out₀)
+
+abbrev μ-loop : tie.MeasureT-loop
+μ-loop work history out₀ writes held₀ i₀ out held i = length history - i
+
+returns : tie.Need-returns Inv-loop μ-loop
+returns c =
+    let q = stepped-refused (c .before .answer2 .given .1) (c .before .before .before .step-byte .ensures) in
+    search (needs, walked-bad)
+
+slice-write-out : tie.Need-slice-write-out Inv-loop μ-loop
+slice-write-out c =
+    let w = c .before .before .before .before .before .before .before .before .before .before .pre (c .if1 .taken) in
+    search needs
+
+loop-again : tie.Need-loop-again Inv-loop μ-loop
+loop-again c =
+    let b = c .before .before in
+    let q = stepped-given (b .answer .given .1) (b .before .before .step-byte .ensures) in
+    let inv = b .before .before .before .before .before .loop .inv in
+    let a = from-given _ _ _ _ _ _ (inv .1) q in
+    ⊎-elim
+    (λ w. (search needs, a, w .1 ∙ walked-more _ _ _ _ _ _ _ (inv .2) (w .0 .taken) a, search (needs, ap length (w .1))))
+    (λ w. (search needs, a, w .1 ∙ walked-on _ _ _ _ _ _ _ (inv .2) (w .0 .left), search (needs, ap length (w .1))))
+    (c .if1 .came)
+
+pub walk-history-spec : {M : Type 1} → statement M
+walk-history-spec =
+    tie.close
+    (tie.spec Inv-loop μ-loop (λ c. search (needs, from-first, walked-first)) (λ c. search needs) (λ c κs. search needs)
+    (λ c. search needs) (λ c. search needs) (λ c. search needs) returns slice-write-out (λ c. search needs)
+    (λ c. search needs) loop-again (λ c. search needs) (λ c. search (needs, walked-whole)))
