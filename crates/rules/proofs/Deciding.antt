@@ -109,8 +109,7 @@ sequential-walk p half n d (x ∷ xs) part = on (ltb 1 x) (sequential-walk p hal
     on false e = rw (add-one n, e)
 
 -- A sequential sample, and its verdict: "accept when .., reject when .."; "Each item is 0 or 1"; "The sample must end
--- at
--- the very item .. that decides."
+-- at the very item .. that decides."
 pub record EndsAtItem (p : SequentialPlan) (sample : List ℕ) (v : Verdict) : Type 0 where
   pub whole : length sample ≡ 2 * length (numbersOf sample)
   pub some : 0 < length (numbersOf sample)

@@ -141,14 +141,16 @@ never false x y h = refl
 pub long-unknown : (w : Work) (l : List ℕ) → longestLine < length l → lineOf w (splitAt space l) ≡ unknownLine
 unfolding lineOf
 long-unknown w l h =
-    never (opens originalLetter 4 fs && numbersAfter fs) _ _ (λ t. lot originalLetter (and-left (opens originalLetter 4 fs) (numbersAfter fs) t)
-    (and-right (opens originalLetter 4 fs) (numbersAfter fs) t))
-    ∙ never (opens resubmittedLetter 4 fs && (numbersAfter fs && knows w 4)) _ _ (λ t. lot resubmittedLetter (and-left (opens resubmittedLetter 4 fs)
-    (numbersAfter fs && knows w 4) t) (and-left (numbersAfter fs) (knows w 4) (and-right (opens resubmittedLetter 4 fs)
-    (numbersAfter fs && knows w 4) t)))
+    never (opens originalLetter 4 fs && numbersAfter fs) _ _
+    (λ t. lot originalLetter (and-left (opens originalLetter 4 fs) _ t) (and-right (opens originalLetter 4 fs) _ t))
+    ∙ never (opens resubmittedLetter 4 fs && (numbersAfter fs && knows w 4)) _ _
+    (λ t.
+    lot resubmittedLetter (and-left (opens resubmittedLetter 4 fs) _ t)
+    (and-left (numbersAfter fs) (knows w 4) (and-right (opens resubmittedLetter 4 fs) _ t)))
     ∙ never (opens steadyLetter 1 fs && yesOrNo (fieldAt fs 1)) _ _ (order steadyLetter)
     ∙ never (opens permissionLetter 1 fs && yesOrNo (fieldAt fs 1)) _ _ (order permissionLetter)
-    ∙ never (opens correctiveLetter 0 fs) _ _ (λ t. wide (corrective-short fs (size correctiveLetter 0 t) (one correctiveLetter 0 t)))
+    ∙ never (opens correctiveLetter 0 fs) _ _
+    (λ t. wide (corrective-short fs (size correctiveLetter 0 t) (one correctiveLetter 0 t)))
   where
     fs : List (List ℕ)
     fs = splitAt space l

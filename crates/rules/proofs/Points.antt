@@ -98,27 +98,33 @@ closedAs (given c) = c .recordAfter .severity ∷ c .recordAfter .score ∷ c .r
 twoStages : List ℕ
 twoStages = numberBytes (0 ∷ 1 ∷ 0 ∷ 1 ∷ 10 ∷ 2 ∷ 2 ∷ 2 ∷ 0 ∷ 2 ∷ 1 ∷ 2 ∷ 0 ∷ 0 ∷ [])
 
+byTotal : ℕ → ℕ → ℕ → ℕ → List ℕ
+byTotal size level column total = closedAs (closeTotal fromFive (offered size level column) total)
+
+byStages : List ℕ → List ℕ
+byStages items = closedAs (closeStaged fromFive (offered 8 6 10) twoStages (numberBytes items))
+
 pub pointCases : List (Case (List ℕ))
 pointCases =
     -- Ac 0; Ac 1, at both totals
-    (closedAs (closeTotal fromFive (offered 10 5 5) 0) is (0 ∷ 7 ∷ 0 ∷ []))
-    ∷ (closedAs (closeTotal fromFive (offered 51 5 13) 0) is (0 ∷ 7 ∷ 0 ∷ []))
-    ∷ (closedAs (closeTotal fromFive (offered 51 5 13) 1) is (0 ∷ 7 ∷ 0 ∷ []))
+    (byTotal 10 5 5 0 is (0 ∷ 7 ∷ 0 ∷ []))
+    ∷ (byTotal 51 5 13 0 is (0 ∷ 7 ∷ 0 ∷ []))
+    ∷ (byTotal 51 5 13 1 is (0 ∷ 7 ∷ 0 ∷ []))
     -- an arrow goes from F to E: Ac 21, one column tighter 14 at E and 21 at F
-    ∷ (closedAs (closeTotal fromFive (offered 150 5 20) 14) is (0 ∷ 8 ∷ 0 ∷ []))
-    ∷ (closedAs (closeTotal fromFive (offered 150 5 20) 15) is (0 ∷ 0 ∷ 0 ∷ []))
-    ∷ (closedAs (closeTotal fromFive (offered 150 5 20) 22) is (0 ∷ 0 ∷ 1 ∷ []))
+    ∷ (byTotal 150 5 20 14 is (0 ∷ 8 ∷ 0 ∷ []))
+    ∷ (byTotal 150 5 20 15 is (0 ∷ 0 ∷ 0 ∷ []))
+    ∷ (byTotal 150 5 20 22 is (0 ∷ 0 ∷ 1 ∷ []))
     -- accepted at the first stage, at the second; not accepted
-    ∷ (closedAs (closeStaged fromFive (offered 8 6 10) twoStages (numberBytes (0 ∷ 0 ∷ []))) is (0 ∷ 8 ∷ 0 ∷ []))
-    ∷ (closedAs (closeStaged fromFive (offered 8 6 10) twoStages (numberBytes (1 ∷ 0 ∷ 0 ∷ 0 ∷ []))) is (0 ∷ 0 ∷ 0 ∷ []))
-    ∷ (closedAs (closeStaged fromFive (offered 8 6 10) twoStages (numberBytes (1 ∷ 1 ∷ []))) is (0 ∷ 0 ∷ 1 ∷ []))
+    ∷ (byStages (0 ∷ 0 ∷ []) is (0 ∷ 8 ∷ 0 ∷ []))
+    ∷ (byStages (1 ∷ 0 ∷ 0 ∷ 0 ∷ []) is (0 ∷ 0 ∷ 0 ∷ []))
+    ∷ (byStages (1 ∷ 1 ∷ []) is (0 ∷ 0 ∷ 1 ∷ []))
     ∷ []
 
 -- Lots closed at each edge of the points.
 pub closed-points : AllAsSaid pointCases
-unfolding pointCases fromFive offered closedAs numberBytes twoStages closeTotal closeStaged judgeTotal judgeStaged
-    plainPlan tablePlan landing boxAt tighterAc letterOf rowOf rowFrom stagedPlan checkBook numbersOf checkedAs
-    sections section entries entry shift thenFrom keyFalls rises numbersFrom right stagedRule stagedNumber acKeeps
-    reKeeps sameKey seek seekIn lookUp every totalSize judgeStages stagedFrom stagesFrom stageDecides takeItems step
-    onLot figuresInRange lib.Count.ones
+unfolding pointCases byTotal byStages fromFive offered closedAs numberBytes twoStages closeTotal closeStaged judgeTotal
+    judgeStaged plainPlan tablePlan landing boxAt tighterAc letterOf rowOf rowFrom stagedPlan checkBook numbersOf
+    checkedAs sections section entries entry shift thenFrom keyFalls rises numbersFrom right stagedRule stagedNumber
+    acKeeps reKeeps sameKey seek seekIn lookUp every totalSize judgeStages stagedFrom stagesFrom stageDecides takeItems
+    step onLot figuresInRange lib.Count.ones
 closed-points = refl

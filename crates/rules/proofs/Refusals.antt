@@ -30,8 +30,7 @@ pub record Lowest (Wrong : ℕ → Type 0) (n : ℕ) : Type 0 where
   pub no-lower : (m : ℕ) → Wrong m → n ≤ m
 
 -- The answer reports what is wrong, none of it numbered below low: it is given where nothing is wrong, and is refused
--- by
--- the lowest number that applies.
+-- by the lowest number that applies.
 pub record Reports {A : Type 0} (low : ℕ) (Wrong : ℕ → Type 0) (a : Answer A) : Type 0 where
   pub from : (m : ℕ) → Wrong m → low ≤ m
   pub if-given : (x : A) → a ≡ given x → (n : ℕ) → Wrong n → ⊥

@@ -157,7 +157,8 @@ screenCases =
     (screen (7 ∷ 0 ∷ []) is given (mean (fin false 7 (pos 0))))
     ∷ (screen (7 ∷ 0 ∷ 9 ∷ 0 ∷ []) is given (meanAndVariance (fin false 1 (pos 3)) (fin false 1 (pos 1))))
     ∷ (screen (255 ∷ 255 ∷ 0 ∷ 0 ∷ []) is given (meanAndVariance (fin true 1 (negsuc 0)) (fin false 1 (negsuc 0))))
-    ∷ (screen (1 ∷ 0 ∷ 2 ∷ 0 ∷ 2 ∷ 0 ∷ []) is given (meanAndVariance (ofBits binary64 4610184818551597739) (ofBits binary64 4599676419421066581)))
+    ∷ (screen (1 ∷ 0 ∷ 2 ∷ 0 ∷ 2 ∷ 0 ∷ [])
+    is given (meanAndVariance (ofBits binary64 4610184818551597739) (ofBits binary64 4599676419421066581)))
     ∷ []
 
 pub screens : AllAsSaid screenCases

@@ -135,7 +135,6 @@ cases =
     ∷ []
 
 pub worked-books : AllAsSaid cases
-unfolding cases whole with alone checkBook numberBytes numbersOf checkedAs sections section entries entry shift thenFrom keyFalls
-    rises
-    numbersFrom right stagedRule stagedNumber acKeeps reKeeps sequentialRule atFits
+unfolding cases whole with alone checkBook numberBytes numbersOf checkedAs sections section entries entry shift thenFrom
+    keyFalls rises numbersFrom right stagedRule stagedNumber acKeeps reKeeps sequentialRule atFits
 worked-books = refl

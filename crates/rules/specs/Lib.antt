@@ -1,4 +1,4 @@
--- What must be believed: the functions' promises are written in these. Each is held to document 01 sentence by sentence.
+-- What must be believed: the functions' promises are written in these, each held to document 01 sentence by sentence.
 pub mod Refusals
 pub mod Numbers
 pub mod Codes
@@ -15,10 +15,10 @@ pub mod Entries
 pub mod Ascii
 pub mod Log
 pub mod Terminal
--- Second readings: the same said another way, and proved to agree, so that a slip would have to be made in both alike.
--- Reading says without a record what Severity says step by step (`agree`); Faults, by the places of Layout, says without
--- a walk what Book finds (`lowest`, `sound-has-none`); Feeding says piece by piece what Log says of a whole input
--- (`any-pieces`).
+-- Second readings: the same said another way and proved to agree, so that a slip would have to be made in both alike.
+-- Reading says without a record what Severity says step by step (`agree`). Faults, by the places of Layout, says
+-- without a walk what Book finds (`lowest`, `sound-has-none`). Feeding says piece by piece what Log says of a whole
+-- input (`any-pieces`).
 pub mod Reading
 pub mod Layout
 pub mod Faults

@@ -127,7 +127,8 @@ correctiveLetter = code "C"
 unfoldable pub lineOf : Work → List (List ℕ) → Line
 lineOf w fields =
     cond (opens originalLetter 4 fields && numbersAfter fields) (lotIn false fields)
-    (cond (opens resubmittedLetter 4 fields && (numbersAfter fields && knows w (byteOf resubmitted))) (lotIn true fields)
+    (cond (opens resubmittedLetter 4 fields && (numbersAfter fields && knows w (byteOf resubmitted)))
+    (lotIn true fields)
     (cond (opens steadyLetter 1 fields && yesOrNo (fieldAt fields 1))
     (orderIn (byteOf (steadyIs true)) (byteOf (steadyIs false)) fields)
     (cond (opens permissionLetter 1 fields && yesOrNo (fieldAt fields 1))

@@ -132,8 +132,8 @@ step r corrective = onCorrective (r .severity) r
 step r unknown = refused unknownForm 0
 
 -- "A lent record is in range when the severity is at most 3, the score at most 30, the run and the not-accepted count
--- of a tightened stay at most 4 each,
--- the window at most five lots with at most one not accepted, and every figure that its severity doesn't use is 0"
+-- of a tightened stay at most 4 each, the window at most five lots with at most one not accepted, and every figure that
+-- its severity doesn't use is 0"
 abbrev pub scoreAndWindow : Record → Bool
 scoreAndWindow r = leb (r .score) 30 && (ltb (r .window) 32 && leb (ones (r .window)) 1)
 

@@ -16,7 +16,8 @@ abbrev pub statusOf : {A : Type 0} → Answer A → ℕ
 statusOf (refused n p) = n + 256 * p
 statusOf (given a) = 0
 
--- The status of a list of severities, in 64 bits: the place in the 56 above the low byte, one past them told as the last.
+-- The status of a list of severities, in 64 bits: its place has the 56 above the low byte; one past them is told as the
+-- last.
 abbrev pub largestPlace : ℕ
 largestPlace = 72057594037927935
 

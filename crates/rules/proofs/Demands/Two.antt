@@ -384,8 +384,7 @@ module _ (q : Asked) where
             (ap (λ (v : Verdict). given (record { plan = j .plan; verdict = v })) (t .verdict))
 
 -- 5. A lot closed: 1 for a record out of range, and else as the lot is judged at the present severity. What is judged
--- is
--- taken into the record: the severity is not stopped, so that the step is always given (`lot-steps`).
+-- is taken into the record: the severity is not stopped, so that the step is always given (`lot-steps`).
 module _ (r : Record) (o : Offered) (book sample : List ℕ) where
   single-planned : (j : Judged Plan Verdict) → judgeSingle (askedOn r o) book sample ≡ given j
       → SinglePlanned (askedOn r o) book (j .plan)
