@@ -22,6 +22,7 @@ pub mod Items
 pub mod Landing
 pub mod Leaving
 pub mod LineForms
+pub mod LogRuns
 pub mod LookUp
 pub mod Numbers
 pub mod Orders

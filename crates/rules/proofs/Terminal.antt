@@ -11,13 +11,14 @@ use lib.Dec.{leb, eqb}
 use lib.ListN.{length, getD, replicate, length-append, length-replicate}
 use lib.Seq.{ext-getD}
 use Rattle.rules.specs.Refusals.{Answer, refused, given}
-use Rattle.rules.specs.Severity.{Record, inRange, figuresInRange}
+use Rattle.rules.specs.Severity.{Record, inRange, figuresInRange, fresh}
+use Rattle.rules.specs.History.{ours}
 use Rattle.rules.specs.Book.{every, seven, stagedOf}
 use Rattle.rules.specs.Entries.{Asked, stagedPlan}
 use Rattle.rules.specs.Numbers.{numbersOf}
 use Rattle.rules.specs.Staged.{StagedPlan}
 use Rattle.rules.specs.Terminal.{statusOf, largestPlace, wideStatusOf, flag, bytesOf, hasForm, recordIn}
-use Rattle.rules.specs.Terminal.{rowLength, rowBytes}
+use Rattle.rules.specs.Terminal.{recordBytes, rowLength, rowBytes}
 use Rattle.rules.proofs.Numbers.{bytes-twice, numbers-back}
 use Rattle.rules.proofs.Answers.{refused-given}
 use Rattle.rules.proofs.Bools.{and-left, and-right}
@@ -132,3 +133,8 @@ given-row q book p h =
           length-replicate {A = ℕ} (7 - length (every from by m e)) 0,
           every-length from by m e,
         )
+
+-- Seven zero bytes are the fresh record.
+pub zero-bytes-fresh : recordIn (replicate recordBytes 0) ≡ fresh (ours .permission)
+unfolding recordIn hasForm
+zero-bytes-fresh = refl

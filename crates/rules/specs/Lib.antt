@@ -28,3 +28,4 @@ pub mod Feeding
 pub mod PlanRules
 pub mod Runs
 pub mod Switching
+pub mod LogRuns

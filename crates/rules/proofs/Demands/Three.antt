@@ -22,6 +22,7 @@ use Rattle.rules.specs.Entries.{closeTotal, next, onRecord, judgeSingle,
 use Rattle.rules.specs.Runs.{Call, single, staged, total, byte, sequential, variables, entered}
 use Rattle.rules.specs.Runs.{isResubmission, withoutResubmissions, recordBy, ran, eventsRan, bytesRan, event}
 use Rattle.rules.specs.Runs.{eventsRead, Corrects, Idle, Records, ClosesLot, ByCall, askedAt, AskedAsRead}
+use Rattle.rules.specs.LogRuns.{callsAfter, heldFrom}
 use Rattle.rules.specs.Switching.{Every, AtMost25, Whole, NormalLeft, TightenedLeft, ReducedLeft, ReducedStarts}
 use Rattle.rules.proofs.Demands.Two.{close-single-given, close-staged-given, close-total-given}
 use Rattle.rules.proofs.Range.{step-range, after-range}
@@ -29,6 +30,7 @@ use Rattle.rules.proofs.Agreement.{agree, severity-agrees}
 use Rattle.rules.proofs.Stays.{tightened-stays, stays-whole}
 use Rattle.rules.proofs.Switches.{stopped-left, stopped-corrected, tightened-left, reduced-left, reduced-starts}
 use Rattle.rules.proofs.Leaving.{normal-left}
+use Rattle.rules.proofs.LogRuns.{held-ran}
 use Rattle.rules.proofs.Resubmitted.{left-severities, without-resubmitted, resubmitted-in, resubmitted-reads}
 use Rattle.rules.proofs.Bytes.{corrective-byte, past-more, past-whole, past-append, past-put-in, past-without}
 use Rattle.rules.proofs.Runs.{ran-agrees, ran-agrees-bytes, ran-resubmitted, ran-without, one-call, by-call}
@@ -92,6 +94,21 @@ module _ (w : Work) (cs : List Call) where
   -- of the bytes that the calls stand for
   pub run-record-bytes : ran w cs ≡ recordRead (w .permission) (map eventOf (bytesRan w cs))
   run-record-bytes = agree (w .permission) (map eventOf (bytesRan w cs)) (ran w cs) (ran-agrees-bytes w cs)
+
+-- lotlog's lines are such a run: the record that it holds after them has the severity and all the figures of the written
+-- reading of the events that the lines stand for, so that what is said of runs holds of lotlog.
+module _ (w : Work) (lines : List (List ℕ)) where
+  pub log-run : heldFrom w 1 (fresh (w .permission)) lines ≡ ran w (callsAfter w [] lines)
+  unfolding ran
+  log-run = held-ran w 1 [] lines
+
+  pub log-severity : heldFrom w 1 (fresh (w .permission)) lines .severity
+      ≡ severityRead (w .permission) (eventsRan w (callsAfter w [] lines))
+  log-severity = ap (λ (r : Record). r .severity) log-run ∙ run-severity w (callsAfter w [] lines)
+
+  pub log-record : heldFrom w 1 (fresh (w .permission)) lines
+      ≡ recordRead (w .permission) (eventsRan w (callsAfter w [] lines))
+  log-record = log-run ∙ run-record w (callsAfter w [] lines)
 
 -- A lot closed in a run, resubmitted or not, is judged at the severity that the written reading of the events so far
 -- finds.
