@@ -5,7 +5,7 @@
 use Prim.Native.Nat.{ℕ, zero, suc}
 use mathlib.Core.Path.{_≡_, refl, sym}
 use mathlib.Core.Bool.{Bool, true, false, cond, _&&_, not}
-use mathlib.Core.List.{List, [], _∷_, _++_, map}
+use mathlib.Core.List.{List, [], _∷_, _++_}
 use lib.Count.{ones}
 use lib.Dec.{leb}
 use lib.ListN.{length, replicate}
@@ -19,6 +19,7 @@ use Rattle.rules.specs.Reading.{pointsOf, readLot, readOrder, readEvent}
 use Rattle.rules.specs.History.{ours, past, eventIn, eventOf, afterFrom, afterHistory}
 use Rattle.rules.specs.Switching.{CarriedOver}
 use Rattle.rules.proofs.Answers.{refused-given, given-one}
+use Rattle.rules.proofs.Cases.{Case, _is_, AllAsSaid}
 
 -- The written reading: only a steady order changes steady, only one of permission changes permission; at the start
 -- steady is no, and permission as the start names it.
@@ -144,27 +145,27 @@ no-order r t (permissionIs b) m n q = absurd (n b refl)
 no-order r t corrective m n q = given-stands _ _ r t _ q (corrective-stands (leb stopped (r .severity)) r)
 no-order r t unknown m n q = absurd (refused-given q)
 
--- Orders given before the stays that follow, in each severity: to tightened and back; to stopped, corrected and back; a
--- lot not accepted under reduced; orders given under tightened, and while stopped; orders given last, permission first.
-pub histories : List (List ℕ)
-histories =
-    (5 ∷ 7 ∷ 3 ∷ 3 ∷ replicate 15 0)
-    ∷ ((5 ∷ 7 ∷ replicate 7 3) ++ (9 ∷ replicate 15 0))
-    ∷ ((5 ∷ 7 ∷ replicate 10 0) ++ (3 ∷ replicate 10 0))
-    ∷ (3 ∷ 3 ∷ 5 ∷ 7 ∷ replicate 15 0)
-    ∷ (replicate 7 3 ++ (5 ∷ 7 ∷ 9 ∷ replicate 15 0))
-    ∷ (replicate 10 0 ++ (7 ∷ 5 ∷ []))
-    ∷ []
-
 severityIn : Answer Record → List ℕ
 severityIn (refused n p) = []
 severityIn (given r) = r .severity ∷ []
 
 -- the severity that the fold ends with, and the one that the written reading finds
-pub endings : List ℕ → List ℕ
+endings : List ℕ → List ℕ
 endings h = severityIn (afterHistory ours h) ++ (severityRead (ours .permission) (past ours h (length h)) ∷ [])
 
-pub orders-outlive-stays : map endings histories ≡ replicate 6 (reduced ∷ reduced ∷ [])
-unfolding histories endings severityIn afterFrom past eventIn eventOf step onLot onResubmitted onOrder onCorrective
+-- Orders given before the stays that follow, in each severity: to tightened and back; to stopped, corrected and back; a
+-- lot not accepted under reduced; orders given under tightened, and while stopped; orders given last, permission first.
+pub ordersCases : List (Case (List ℕ))
+ordersCases =
+    (endings (5 ∷ 7 ∷ 3 ∷ 3 ∷ replicate 15 0) is (reduced ∷ reduced ∷ []))
+    ∷ (endings ((5 ∷ 7 ∷ replicate 7 3) ++ (9 ∷ replicate 15 0)) is (reduced ∷ reduced ∷ []))
+    ∷ (endings ((5 ∷ 7 ∷ replicate 10 0) ++ (3 ∷ replicate 10 0)) is (reduced ∷ reduced ∷ []))
+    ∷ (endings (3 ∷ 3 ∷ 5 ∷ 7 ∷ replicate 15 0) is (reduced ∷ reduced ∷ []))
+    ∷ (endings (replicate 7 3 ++ (5 ∷ 7 ∷ 9 ∷ replicate 15 0)) is (reduced ∷ reduced ∷ []))
+    ∷ (endings (replicate 10 0 ++ (7 ∷ 5 ∷ [])) is (reduced ∷ reduced ∷ []))
+    ∷ []
+
+pub orders-outlive-stays : AllAsSaid ordersCases
+unfolding ordersCases endings severityIn afterFrom past eventIn eventOf step onLot onResubmitted onOrder onCorrective
     stayAfter steadyIn permissionIn notAcceptedIn runOf pointsOf readLot readOrder readEvent lib.Count.ones
 orders-outlive-stays = refl

@@ -12,7 +12,7 @@ use lib.ListN.{length, getD, replicate}
 use Rattle.rules.specs.Refusals.{Answer, refused, given}
 use Rattle.rules.specs.Ascii.{ascii}
 use Rattle.rules.specs.Codes.{normal, tightened, reduced, letterOf, rowOf, rowFrom}
-use Rattle.rules.specs.Verdict.{Verdict, Decision, accepts, rejects, goesOn}
+use Rattle.rules.specs.Verdict.{Verdict}
 use Rattle.rules.specs.Single.{Landing, Plan, landingOf, landing, boxAt, sizes, tablePlan, tighterAc}
 use Rattle.rules.specs.Sequential.{SequentialPlan, sequentialFrom, itemDecides, judgeSequence}
 use Rattle.rules.specs.Numbers.{numbersOf, signedOf, numberBytes}
@@ -42,14 +42,15 @@ verdictOf : Answer Verdict → List ℕ
 verdictOf (refused n p) = n ∷ []
 verdictOf (given v) = yesNo (v .accepted) ∷ v .used ∷ []
 
-decisionOf : Decision → List ℕ
-decisionOf accepts = 1 ∷ []
-decisionOf rejects = 0 ∷ []
-decisionOf goesOn = []
-
 -- hA 1.750, hR 2.247, g 0.0957, nt 98, At 9
 sequence : SequentialPlan
 sequence = record { hA = 1750; hR = 2247; g = 9570; nt = 98; atNt = 9 }
+
+-- a bad item at each tenth, up to the ninetieth, which keeps the total between the lines; then the last eight
+afterNinety : List ℕ → List ℕ
+afterNinety last =
+    let ten : List ℕ = replicate 9 0 ++ (1 ∷ []) in
+    ten ++ (ten ++ (ten ++ (ten ++ (ten ++ (ten ++ (ten ++ (ten ++ (ten ++ last))))))))
 
 readings : List ℤ → ℕ → ℕ → List ℕ
 readings xs u k = yesNo (acceptsReadings true (record { n = 3; k = k }) (pos u) xs) ∷ []
@@ -73,8 +74,8 @@ starredCases =
     ∷ (verdictOf (sequentialFrom sequence false 0 0 (replicate 19 0)) is (1 ∷ 19 ∷ []))
     ∷ (verdictOf (sequentialFrom sequence false 0 0 (replicate 18 0)) is (7 ∷ []))
     ∷ (verdictOf (sequentialFrom sequence false 0 0 (replicate 3 1)) is (0 ∷ 3 ∷ []))
-    ∷ (decisionOf (itemDecides sequence 98 9) is (1 ∷ []))
-    ∷ (decisionOf (itemDecides sequence 98 10) is (0 ∷ []))
+    ∷ (verdictOf (sequentialFrom sequence false 0 0 (afterNinety (replicate 8 0))) is (1 ∷ 98 ∷ []))
+    ∷ (verdictOf (sequentialFrom sequence false 0 0 (afterNinety (replicate 7 0 ++ (1 ∷ [])))) is (0 ∷ 98 ∷ []))
     ∷ (readings (pos 10 ∷ pos 12 ∷ pos 14 ∷ []) 20 4000 is (1 ∷ []))
     ∷ (readings (pos 10 ∷ pos 12 ∷ pos 14 ∷ []) 19 3500 is (1 ∷ []))
     ∷ (readings (pos 10 ∷ pos 12 ∷ pos 14 ∷ []) 19 3501 is (0 ∷ []))
@@ -88,7 +89,7 @@ starredCases =
 
 -- The starred cases, together.
 pub starred : AllAsSaid starredCases
-unfolding starredCases landedAt yesNo verdictOf decisionOf sequence readings ends letterOf rowOf rowFrom landing
+unfolding starredCases landedAt yesNo verdictOf sequence afterNinety readings ends letterOf rowOf rowFrom landing
     boxAt sequentialFrom itemDecides acceptsReadings withinSpread margin spread sumZ squaresZ stayAfter steadyIn
     permissionIn notAcceptedIn runOf pointsOf readLot readOrder readEvent past eventIn eventOf
 starred = refl
