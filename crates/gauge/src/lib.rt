@@ -5,30 +5,17 @@ ghost use Prim.Native.Nat.{_*_, _≤_};
 ghost use lib.IntN.{pos, _-ℤ_};
 ghost use lib.ListN.{length};
 ghost use Rattle.rules.specs.Refusals.{given};
-ghost use Rattle.rules.specs.Book.{couldHold, variables};
 ghost use Rattle.rules.specs.Variables.{inGauge, margin, spread, withinSpread};
 ghost use Rattle.rules.specs.Screen.{quotient, shownOf};
 ghost use Rattle.rules.specs.Screen as screens;
-ghost use Rattle.rules.specs.Entries.{variablesEntry, variablesSample};
+ghost use Rattle.rules.specs.Entries.{variablesSample};
 ghost use Rattle.gauge.specs.Raised.{sumFrom, squaresFrom, Passed};
-ghost use Rattle.gauge.specs.Paper.{planOf, paperOf, shownOn};
-
-// How many readings, and k in thousandths: 16-bit numbers, as in the book.
-pub struct VariablesPlan {
-    pub n: u16,
-    pub k: u16,
-}
-
-// Accepted or not, and the readings used.
-pub struct Gauged {
-    pub accepted: bool,
-    pub used: u16,
-}
-
-pub enum ReadingsVerdict {
-    Refused(u8, usize),
-    Judged(Gauged),
-}
+ghost use Rattle.gauge.specs.Paper.{shownPaper};
+ghost use Rattle.plans.specs.Paper.{verdictAnswer};
+ghost use Rattle.entry.specs.Paper.{variablesPaper};
+use entry::VariablesPlan;
+use plans::Verdict;
+use plans::VerdictAnswer;
 
 pub struct Figures {
     pub mean: f64,
@@ -90,21 +77,6 @@ fn sum_up(s: &[u8]) -> Sums
     Sums { sound: true, t, q }
 }
 
-fn could_hold(n: u64, k: u64) -> bool
-    ensures { λ r. ⌜ r ≡ couldHold variables (variablesEntry (record { n = n; k = k })) ⌝ }
-{
-    if n < 2 {
-        return false;
-    }
-    if 50 < n {
-        return false;
-    }
-    if k < 1 {
-        return false;
-    }
-    k <= 4000
-}
-
 fn in_gauge(limit: i32) -> bool
     ensures { λ r. ⌜ r ≡ inGauge limit ⌝ }
 {
@@ -150,34 +122,37 @@ fn accepts(upper: bool, n: u64, k: u64, limit: u64, t: u64, q: u64) -> bool
     passes(n, k, t, at_limit, t, q)
 }
 
-// The verdict on a sample of readings, each a 16-bit number in two's complement, for an upper or a lower limit.
+// The verdict on a sample of readings, each a 16-bit number in two's complement, for an upper or a lower limit. A plan
+// that no sound book could hold is refused: its ranges keep the sums within 64 bits.
 pub fn judge_readings(
     upper: bool,
     plan: VariablesPlan,
     limit: i32,
     readings: &[u8],
-) -> ReadingsVerdict
-    ensures { λ r. ⌜ paperOf r ≡ variablesSample upper (planOf plan) limit (now (readings .entry)) ⌝ }
+) -> VerdictAnswer
+    ensures { λ r. ⌜ verdictAnswer r ≡ variablesSample upper (variablesPaper plan) limit (now (readings .entry)) ⌝ }
 {
-    let n = plan.n as u64;
-    let k = plan.k as u64;
-    if !could_hold(n, k) {
-        return ReadingsVerdict::Refused(6, 0);
+    if !entry::variables_holds(plan) {
+        return VerdictAnswer::Refused(6, 0);
     }
+    let n = plan.n as u64;
     if readings.len() as u64 != 2 * n {
-        return ReadingsVerdict::Refused(7, 0);
+        return VerdictAnswer::Refused(7, 0);
     }
     let sums = sum_up(readings);
     if !sums.sound {
-        return ReadingsVerdict::Refused(9, 0);
+        return VerdictAnswer::Refused(9, 0);
     }
     if !in_gauge(limit) {
-        return ReadingsVerdict::Refused(9, 0);
+        return VerdictAnswer::Refused(9, 0);
     }
-    let accepted = accepts(upper, n, k, raised(limit), sums.t, sums.q);
-    ReadingsVerdict::Judged(Gauged {
+    let accepted = accepts(upper, n, plan.k as u64, raised(limit), sums.t, sums.q);
+    VerdictAnswer::Given(Verdict {
         accepted,
-        used: plan.n,
+        used: plan.n as u32,
+        total: 0,
+        stage: 1,
+        stages: 1,
     })
 }
 
@@ -192,7 +167,7 @@ fn ratio(a: u64, b: u64, d: u64) -> f64
 
 fn show(n: u64, t: u64, q: u64) -> Shown
     requires { ⌜ (1 ≤ n) × (n ≤ 50) × (t ≤ 100000) × (q ≤ 200000000) ⌝ }
-    ensures { λ r. ⌜ shownOn r ≡ given (shownOf n (sumFrom n t) (squaresFrom n t q)) ⌝ }
+    ensures { λ r. ⌜ shownPaper r ≡ given (shownOf n (sumFrom n t) (squaresFrom n t q)) ⌝ }
 {
     let mean = ratio(t, 1000 * n, n);
     if n == 1 {
@@ -204,7 +179,7 @@ fn show(n: u64, t: u64, q: u64) -> Shown
 
 // What the screen shows of 1 to 50 readings.
 pub fn screen(readings: &[u8]) -> Shown
-    ensures { λ r. ⌜ shownOn r ≡ screens.screen (now (readings .entry)) ⌝ }
+    ensures { λ r. ⌜ shownPaper r ≡ screens.screen (now (readings .entry)) ⌝ }
 {
     let len = readings.len();
     if len % 2 == 1 {

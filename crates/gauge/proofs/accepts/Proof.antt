@@ -23,9 +23,6 @@ mul-at-limit c = omega (arith, mul-le-mul (c .pre .1) (c .pre .3))
 passes-requires : tie.Need-passes-requires
 passes-requires c κs = omega (arith, mul-le-mul (c .before .pre .1) (c .before .pre .3))
 
-passes-requires-2 : tie.Need-passes-requires-2
-passes-requires-2 c κs = search needs
-
 pub accepts-spec : {M : Type 1} → statement M
 accepts-spec =
-    tie.close (tie.spec mul-at-limit passes-requires returns passes-requires-2 returns-2)
+    tie.close (tie.spec mul-at-limit passes-requires returns (λ c κs. search needs) returns-2)

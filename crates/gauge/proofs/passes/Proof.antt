@@ -24,12 +24,6 @@ returns-2 c =
     rw (c .before .square .ensures .0, c .square2 .ensures .0)
     (sym (weighed-from (a .n) (a .t) (a .k) (a .high) (a .low) (a .q) (c .before .before .if1 .left)))
 
-square-requires : tie.Need-square-requires
-square-requires c κs = search needs
-
-square-requires-2 : tie.Need-square-requires-2
-square-requires-2 c κs = search needs
-
 bounds : (c : lts.After-square2 (square-reads.Asked, square-reads.Learnt) reads.Pre reads.Post)
     → Products (c .before .before .before .args .n) (c .before .before .before .args .k)
     (c .before .before .before .args .q) (c .before .square .result) (c .square2 .result)
@@ -49,9 +43,6 @@ mul-result c = omega (arith, bounds c)
 mul-result-2 : tie.Need-mul-result-2
 mul-result-2 c = omega (arith, bounds c)
 
-mul-result-3 : tie.Need-mul-result-3
-mul-result-3 c = search needs
-
 sub-result : tie.Need-sub-result
 sub-result c = omega arith
 
@@ -67,17 +58,5 @@ add-result c = omega (arith, bounds c)
 pub passes-spec : {M : Type 1} → statement M
 passes-spec =
     tie.close
-    (tie.spec
-    returns
-    square-requires
-    square-requires-2
-    mul-w
-    mul-w-2
-    mul-result
-    mul-result-2
-    mul-result-3
-    sub-result
-    mul-result-4
-    mul-result-5
-    add-result
-    returns-2)
+    (tie.spec returns (λ c κs. search needs) (λ c κs. search needs) mul-w mul-w-2 mul-result mul-result-2
+    (λ c. search needs) sub-result mul-result-4 mul-result-5 add-result returns-2)

@@ -8,12 +8,6 @@ use Rattle.gauge.proofs.Exact.{sub-fits, sub-float, float-nat, back}
 use Rattle.gauge.proofs.ratio.Statement.{statement}
 use Rattle.gauge.proofs.ratio.Tie as tie
 
-cast-z : tie.Need-cast-z
-cast-z c = search needs
-
-cast-z-2 : tie.Need-cast-z-2
-cast-z-2 c = search needs
-
 sub-z : tie.Need-sub-z
 sub-z c = sub-fits (c .args .a) (c .args .b) (c .pre .0) (c .pre .1)
 
@@ -31,4 +25,4 @@ returns c =
 
 pub ratio-spec : {M : Type 1} → statement M
 ratio-spec =
-    tie.close (tie.spec cast-z cast-z-2 sub-z int-to-float-result int-to-float-result-2 returns)
+    tie.close (tie.spec (λ c. search needs) (λ c. search needs) sub-z int-to-float-result int-to-float-result-2 returns)

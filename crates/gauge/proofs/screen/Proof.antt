@@ -16,17 +16,11 @@ returns-2 c = sym (screen-none _ (c .before .if1 .left) (c .if2 .taken))
 returns-3 : tie.Need-returns-3
 returns-3 c = sym (screen-many _ (c .before .before .if1 .left) (c .before .if2 .left) (c .if3 .taken))
 
-sum-up-requires : tie.Need-sum-up-requires
-sum-up-requires c κs = search needs
-
 returns-4 : tie.Need-returns-4
 returns-4 c =
     let e = c .before .before .before in
     let r = sym (c .before .before .sum-up .ensures .range) ∙ not-true _ (c .if4 .taken) in
     sym (screen-reading _ (e .before .before .if1 .left) (e .before .if2 .left) (e .if3 .left) r)
-
-show-requires : tie.Need-show-requires
-show-requires c κs = search needs
 
 returns-5 : tie.Need-returns-5
 returns-5 c =
@@ -39,4 +33,4 @@ returns-5 c =
 pub screen-spec : {M : Type 1} → statement M
 screen-spec =
     tie.close
-    (tie.spec returns returns-2 returns-3 sum-up-requires returns-4 show-requires returns-5)
+    (tie.spec returns returns-2 returns-3 (λ c κs. search needs) returns-4 (λ c κs. search needs) returns-5)

@@ -23,20 +23,8 @@ returns-2 c =
     rw (ne-eqb _ _ (c .before .before .if1 .left), spread-from (a .n) (a .t) (a .q))
     (rw (c .before .before .before .ratio .ensures, c .ratio2 .ensures, c .before .square .ensures .0) refl)
 
-mul-ratio : tie.Need-mul-ratio
-mul-ratio c = search needs
-
-ratio-requires : tie.Need-ratio-requires
-ratio-requires c κs = search needs
-
 mul-ratio-2 : tie.Need-mul-ratio-2
 mul-ratio-2 c = omega (arith, mul-le-mul (c .before .before .pre .1) (c .before .before .pre .3))
-
-square-requires : tie.Need-square-requires
-square-requires c κs = search needs
-
-sub-ratio : tie.Need-sub-ratio
-sub-ratio c = search needs
 
 mul-ratio-3 : tie.Need-mul-ratio-3
 mul-ratio-3 c =
@@ -52,13 +40,5 @@ ratio-requires-2 c κs =
 pub show-spec : {M : Type 1} → statement M
 show-spec =
     tie.close
-    (tie.spec
-    mul-ratio
-    ratio-requires
-    returns
-    mul-ratio-2
-    square-requires
-    sub-ratio
-    mul-ratio-3
-    ratio-requires-2
-    returns-2)
+    (tie.spec (λ c. search needs) (λ c κs. search needs) returns mul-ratio-2 (λ c κs. search needs)
+    (λ c. search needs) mul-ratio-3 ratio-requires-2 returns-2)

@@ -14,14 +14,8 @@ Inv-loop s n t₀ q₀ i₀ t q i = Passing s n t q i
 abbrev μ-loop : tie.MeasureT-loop
 μ-loop s n t₀ q₀ i₀ t q i = n - i
 
-count-requires : tie.Need-count-requires Inv-loop μ-loop
-count-requires c κs = search needs
-
 loop-holds : tie.Need-loop-holds Inv-loop μ-loop
 loop-holds c = passing-starts _ _ (c .count .ensures) (c .before .before .pre)
-
-raised-reading-requires : tie.Need-raised-reading-requires Inv-loop μ-loop
-raised-reading-requires c κs = search needs
 
 returns : tie.Need-returns Inv-loop μ-loop
 returns c =
@@ -63,18 +57,5 @@ returns-3 c = passed _ _ _ _ _ (c .before .loop .inv) (omega arith)
 pub sum-up-spec : {M : Type 1} → statement M
 sum-up-spec =
     tie.close
-    (tie.spec
-    Inv-loop
-    μ-loop
-    count-requires
-    loop-holds
-    raised-reading-requires
-    returns
-    returns-2
-    square-requires
-    add-t
-    add-q
-    add-i
-    loop-less
-    loop-again
-    returns-3)
+    (tie.spec Inv-loop μ-loop (λ c κs. search needs) loop-holds (λ c κs. search needs) returns returns-2
+    square-requires add-t add-q add-i loop-less loop-again returns-3)

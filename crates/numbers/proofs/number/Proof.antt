@@ -10,24 +10,6 @@ use Rattle.rules.proofs.Numbers.{number-at, numbers-count}
 use Rattle.numbers.proofs.number.Statement.{statement}
 use Rattle.numbers.proofs.number.Tie as tie
 
-mul-joined : tie.Need-mul-joined
-mul-joined c = search needs
-
-shared-slice-read-joined : tie.Need-shared-slice-read-joined
-shared-slice-read-joined c = search needs
-
-mul-joined-2 : tie.Need-mul-joined-2
-mul-joined-2 c = search needs
-
-add-joined : tie.Need-add-joined
-add-joined c = search needs
-
-shared-slice-read-joined-2 : tie.Need-shared-slice-read-joined-2
-shared-slice-read-joined-2 c = search needs
-
-joined-requires : tie.Need-joined-requires
-joined-requires c κs = search needs
-
 returns : tie.Need-returns
 returns c =
     let s = c .before .before .before .before .before .args .s .now in
@@ -43,12 +25,5 @@ returns-2 c =
 pub number-spec : {M : Type 1} → statement M
 number-spec =
     tie.close
-    (tie.spec
-    mul-joined
-    shared-slice-read-joined
-    mul-joined-2
-    add-joined
-    shared-slice-read-joined-2
-    joined-requires
-    returns
-    returns-2)
+    (tie.spec (λ c. search needs) (λ c. search needs) (λ c. search needs) (λ c. search needs) (λ c. search needs)
+    (λ c κs. search needs) returns returns-2)

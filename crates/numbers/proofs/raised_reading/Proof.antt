@@ -6,12 +6,6 @@ use Rattle.rules.proofs.Numbers.{raised-low, raised-high}
 use Rattle.numbers.proofs.raised_reading.Statement.{statement}
 use Rattle.numbers.proofs.raised_reading.Tie as tie
 
-number-requires : tie.Need-number-requires
-number-requires c κs = search needs
-
-add-result : tie.Need-add-result
-add-result c = search needs
-
 returns : tie.Need-returns
 returns c = (rw (← c .before .number .ensures .0) (raised-low _ (c .if1 .taken)), omega arith)
 
@@ -20,4 +14,4 @@ returns-2 c =
     (rw (← c .before .number .ensures .0) (raised-high _ (c .if1 .left) (c .before .number .ensures .1)), omega arith)
 
 pub raised-reading-spec : {M : Type 1} → statement M
-raised-reading-spec = tie.close (tie.spec number-requires add-result returns returns-2)
+raised-reading-spec = tie.close (tie.spec (λ c κs. search needs) (λ c. search needs) returns returns-2)

@@ -5,15 +5,9 @@ use native.Mathlib.Omega.{arith}
 use borrow.Author.Needs.{needs}
 use Rattle.rules.proofs.Numbers.{numbers-low}
 use Rattle.rules.proofs.SampleSteps.{ended-there, ended-past}
-use Rattle.samples.specs.Paper.{verdictPaper}
+use Rattle.plans.specs.Paper.{verdictPaper}
 use Rattle.samples.proofs.ended_with.Statement.{statement}
 use Rattle.samples.proofs.ended_with.Tie as tie
-
-cast-end : tie.Need-cast-end
-cast-end c = search needs
-
-mul-end : tie.Need-mul-end
-mul-end c = search needs
 
 returns : tie.Need-returns
 returns c =
@@ -27,4 +21,4 @@ returns-2 c =
     (ended-there (a .sample .now) (a .v .used) (verdictPaper (a .v)) (omega (arith, numbers-low (a .sample .now))))
 
 pub ended-with-spec : {M : Type 1} → statement M
-ended-with-spec = tie.close (tie.spec cast-end mul-end returns returns-2)
+ended-with-spec = tie.close (tie.spec (λ c. search needs) (λ c. search needs) returns returns-2)

@@ -7,26 +7,14 @@ use Rattle.rules.specs.Sequential.{itemDecides}
 use Rattle.samples.proofs.item_decides.Statement.{statement}
 use Rattle.samples.proofs.item_decides.Tie as tie
 
-cast-if1 : tie.Need-cast-if1
-cast-if1 c = search needs
-
-cast-t6 : tie.Need-cast-t6
-cast-t6 c = search needs
-
 returns : tie.Need-returns
 unfolding itemDecides
 returns c = rw (le-ltb _ _ (c .before .if1 .taken))
-
-on-accept-line-requires : tie.Need-on-accept-line-requires
-on-accept-line-requires c κs = search needs
 
 returns-2 : tie.Need-returns-2
 unfolding itemDecides
 returns-2 c =
     rw (lt-ltb _ _ (c .before .before .if1 .left), sym (c .before .on-accept-line .ensures) ∙ c .if2 .taken)
-
-on-reject-line-requires : tie.Need-on-reject-line-requires
-on-reject-line-requires c κs = search needs
 
 returns-3 : tie.Need-returns-3
 unfolding itemDecides
@@ -51,12 +39,5 @@ returns-4 c =
 pub item-decides-spec : {M : Type 1} → statement M
 item-decides-spec =
     tie.close
-    (tie.spec
-    cast-if1
-    cast-t6
-    returns
-    on-accept-line-requires
-    returns-2
-    on-reject-line-requires
-    returns-3
-    returns-4)
+    (tie.spec (λ c. search needs) (λ c. search needs) returns (λ c κs. search needs) returns-2 (λ c κs. search needs)
+    returns-3 returns-4)

@@ -1,26 +1,80 @@
--- `samples::sequential_sample` meets its contract.
+-- `samples::sequential_sample` meets its contract. The invariant: the walk has come to the item at place i.
 -- Assumes nothing.
-use mathlib.Core.Path.{sym, _∙_}
+use Prim.Native.Nat.{_-_, _≤_}
+use mathlib.Core.Path.{sym, ap, _∙_}
+use native.Mathlib.Omega.{arith}
 use borrow.Author.Needs.{needs}
-use Rattle.rules.specs.Entries.{sequentialSample}
+use Rattle.rules.proofs.SampleSteps.{SequentialAt, sequential-start, sequential-short, sequential-over}
+use Rattle.rules.proofs.SampleSteps.{sequential-decides, sequential-goes, goes-before}
+use Rattle.samples.specs.Paper.{decisionPaper}
+use Rattle.entry.specs.Paper.{sequentialPaper}
 use Rattle.samples.proofs.sequential_sample.Statement.{statement}
 use Rattle.samples.proofs.sequential_sample.Tie as tie
 
-sequential-held-requires : tie.Need-sequential-held-requires
-sequential-held-requires c κs = search needs
+abbrev Inv-loop : tie.InvT-loop
+Inv-loop plan sample have i₀ d₀ i d =
+    (i ≤ have) × (i ≤ 65534) × (d ≤ i) × SequentialAt (sequentialPaper plan) sample i d
 
-sequential-walk-requires : tie.Need-sequential-walk-requires
-sequential-walk-requires c κs = search needs
+abbrev μ-loop : tie.MeasureT-loop
+μ-loop plan sample have i₀ d₀ i d = have - i
 
-returns : tie.Need-returns
-unfolding sequentialSample
+loop-holds : tie.Need-loop-holds Inv-loop μ-loop
+loop-holds c =
+    let a = c .before .before .args in
+    (omega arith, omega arith, omega arith, sequential-start (sequentialPaper (a .plan)) (a .sample .now))
+
+returns : tie.Need-returns Inv-loop μ-loop
 returns c =
-    rw (sym (c .before .before .sequential-held .ensures) ∙ c .before .if1 .taken) (c .sequential-walk .ensures)
+    let at = c .before .before .before .loop .inv .3 in
+    sym (sequential-over at (omega arith) (c .before .number .ensures .0) (c .if1 .taken))
 
-returns-2 : tie.Need-returns-2
-unfolding sequentialSample
-returns-2 c = rw (sym (c .before .sequential-held .ensures) ∙ c .if1 .left)
+add-d : tie.Need-add-d Inv-loop μ-loop
+add-d c = omega arith
+
+add-i : tie.Need-add-i Inv-loop μ-loop
+add-i c = omega arith
+
+item-decides-requires : tie.Need-item-decides-requires Inv-loop μ-loop
+item-decides-requires c κs = omega arith
+
+cast-t12 : tie.Need-cast-t12 Inv-loop μ-loop
+cast-t12 c = omega arith
+
+ended-with-requires : tie.Need-ended-with-requires Inv-loop μ-loop
+ended-with-requires c κs = omega arith
+
+returns-2 : tie.Need-returns-2 Inv-loop μ-loop
+returns-2 c =
+    let d = c .before .before .before .before in
+    let n = d .before .before in
+    let so = sym (d .item-decides .ensures) ∙ ap decisionPaper (c .before .before .accepted .given .1) in
+    let at = n .before .before .loop .inv .3 in
+    c .ended-with .ensures
+    ∙ sym (sequential-decides at (omega arith) (n .number .ensures .0) (d .before .if1 .left) _ so)
+
+enum-told : tie.Need-enum-told Inv-loop μ-loop
+enum-told c = search needs
+
+loop-less : tie.Need-loop-less Inv-loop μ-loop
+loop-less c = omega arith
+
+loop-again : tie.Need-loop-again Inv-loop μ-loop
+loop-again c =
+    let e = c .before .before .before in
+    let at = e .before .before .before .loop .inv .3 in
+    let goes = sym (c .before .before .item-decides .ensures) ∙ ap decisionPaper (c .enum-told .given .1) in (
+      omega arith,
+      omega (arith, goes-before _ _ _ goes),
+      omega arith,
+      sequential-goes at (omega arith) (e .before .number .ensures .0) (e .if1 .left) goes,
+    )
+
+returns-3 : tie.Need-returns-3 Inv-loop μ-loop
+returns-3 c = sym (sequential-short (c .before .loop .inv .3) (omega arith))
 
 pub sequential-sample-spec : {M : Type 1} → statement M
 sequential-sample-spec =
-    tie.close (tie.spec sequential-held-requires sequential-walk-requires returns returns-2)
+    tie.close
+    (tie.spec Inv-loop μ-loop (λ c κs. search needs) loop-holds (λ c κs. search needs) returns add-d add-i
+    item-decides-requires (λ c. search needs) cast-t12 ended-with-requires returns-2 enum-told loop-less loop-again
+    returns-3)

@@ -1,19 +1,21 @@
 -- `samples::staged_walk` meets its contract. The invariant: the walk has come to the stage at place i.
 -- Assumes nothing.
-use Prim.Native.Nat.{_-_, _*_, _≤_}
-use mathlib.Core.Path.{sym, ap, _∙_}
+use Prim.Native.Nat.{ℕ, _+_, _-_, _*_, _≤_}
+use mathlib.Core.Path.{_≡_, sym, ap, _∙_}
 use native.Mathlib.Omega.{arith}
-use lib.ListN.{length}
+use lib.ListN.{length, drop, getD}
 use Rattle.rules.specs.Numbers.{numbersOf}
+use Rattle.rules.specs.Staged.{Stage, stageDecides, taken, takeItems}
 use Rattle.rules.proofs.SampleSteps.{StagedAt, staged-start, staged-done, staged-missing, staged-over}
 use Rattle.rules.proofs.SampleSteps.{staged-decides, staged-goes, taken-there}
-use Rattle.samples.specs.Paper.{stagedPaper, takenPaper, takenTotal, decisionPaper}
+use Rattle.entry.specs.Paper.{stagedPaper}
+use Rattle.samples.specs.Paper.{takenPaper, takenTotal, decisionPaper}
 use borrow.Author.Needs.{needs}
 use Rattle.samples.proofs.staged_walk.Statement.{statement}
 use Rattle.samples.proofs.staged_walk.Tie as tie
 
 abbrev Inv-loop : tie.InvT-loop
-Inv-loop column sample plan stages i₀ used₀ total₀ i used total =
+Inv-loop column plan sample stages i₀ used₀ total₀ i used total =
     (i ≤ stages)
     × (used ≤ length (numbersOf sample))
     × (used ≤ 65535 * i)
@@ -21,66 +23,44 @@ Inv-loop column sample plan stages i₀ used₀ total₀ i used total =
     × StagedAt column (stagedPaper plan) sample i used total
 
 abbrev μ-loop : tie.MeasureT-loop
-μ-loop column sample plan stages i₀ used₀ total₀ i used total = stages - i
-
-cast-stages : tie.Need-cast-stages Inv-loop μ-loop
-cast-stages c = search needs
+μ-loop column plan sample stages i₀ used₀ total₀ i used total = stages - i
 
 loop-holds : tie.Need-loop-holds Inv-loop μ-loop
 loop-holds c = (omega arith, omega arith, omega arith, omega arith, staged-start _ _ _)
 
-mul-wide : tie.Need-mul-wide Inv-loop μ-loop
-mul-wide c = omega arith
-
-element-copy-out-wide : tie.Need-element-copy-out-wide Inv-loop μ-loop
-element-copy-out-wide c = omega arith
-
-wide-requires : tie.Need-wide-requires Inv-loop μ-loop
-wide-requires c κs = search needs
-
 take-items-requires : tie.Need-take-items-requires Inv-loop μ-loop
 take-items-requires c κs = omega arith
 
-enum-told : tie.Need-enum-told Inv-loop μ-loop
-enum-told c = search needs
+-- the stage's size is the plan's
+sized : (c : tie.After-stage-at Inv-loop μ-loop)
+    → c .stage-at .result .size ≡ getD (c .before .before .before .before .before .args .plan .sizes) (c .before .before .loop .i) 0
+sized c = ap (λ (s : Stage). s .size) (c .stage-at .ensures)
 
 returns : tie.Need-returns Inv-loop μ-loop
 returns c =
     let k = c .before .before in
-    let w = k .before in
+    let w = k .before .before in
     let so = sym (k .take-items .ensures .0) ∙ ap (takenPaper _) (c .enum-told .given .1) in
-    sym (staged-missing (w .before .before .before .loop .inv .4) (omega arith) (w .wide .ensures .0) so)
-
-enum-told-2 : tie.Need-enum-told-2 Inv-loop μ-loop
-enum-told-2 c = search needs
+    sym (staged-missing (w .before .before .loop .inv .4) (omega arith) (sized w) so)
 
 returns-2 : tie.Need-returns-2 Inv-loop μ-loop
 returns-2 c =
     let k = c .before .before in
-    let w = k .before in
+    let w = k .before .before in
     let so = sym (k .take-items .ensures .0) ∙ ap (takenPaper _) (c .enum-told2 .given .1) in
-    sym (staged-over (w .before .before .before .loop .inv .4) (omega arith) (w .wide .ensures .0) so)
-
-enum-known-t : tie.Need-enum-known-t Inv-loop μ-loop
-enum-known-t c = search needs
+    sym (staged-over (w .before .before .loop .inv .4) (omega arith) (sized w) so)
 
 add-used : tie.Need-add-used Inv-loop μ-loop
 add-used c = omega arith
 
-stage-decides-requires : tie.Need-stage-decides-requires Inv-loop μ-loop
-stage-decides-requires c κs = omega arith
+cast-t16 : tie.Need-cast-t16 Inv-loop μ-loop
+cast-t16 c = omega arith
 
-enum-known-accepted : tie.Need-enum-known-accepted Inv-loop μ-loop
-enum-known-accepted c = search needs
+add-t17 : tie.Need-add-t17 Inv-loop μ-loop
+add-t17 c = omega arith
 
-cast-t23 : tie.Need-cast-t23 Inv-loop μ-loop
-cast-t23 c = omega arith
-
-add-t24 : tie.Need-add-t24 Inv-loop μ-loop
-add-t24 c = omega arith
-
-cast-t25 : tie.Need-cast-t25 Inv-loop μ-loop
-cast-t25 c = omega arith
+cast-t18 : tie.Need-cast-t18 Inv-loop μ-loop
+cast-t18 c = omega arith
 
 ended-with-requires : tie.Need-ended-with-requires Inv-loop μ-loop
 ended-with-requires c κs =
@@ -94,14 +74,13 @@ returns-3 c =
     let d = c .before .before .before .before in
     let t = d .before .before in
     let k = t .before .before in
-    let w = k .before in
+    let w = k .before .before in
     let took = sym (k .take-items .ensures .0) ∙ ap (takenPaper _) (t .t .given .1) in
-    let so = sym (d .stage-decides .ensures) ∙ ap decisionPaper (c .before .before .accepted .given .1) in
+    let so =
+    ap (λ (s : Stage). stageDecides s (t .t .given .0 .0)) (sym (w .stage-at .ensures))
+    ∙ sym (d .stage-decides .ensures) ∙ ap decisionPaper (c .before .before .accepted .given .1) in
     c .ended-with .ensures
-    ∙ sym (staged-decides (w .before .before .before .loop .inv .4) (omega arith) (w .wide .ensures .0) took _ so)
-
-enum-told-3 : tie.Need-enum-told-3 Inv-loop μ-loop
-enum-told-3 c = search needs
+    ∙ sym (staged-decides (w .before .before .loop .inv .4) (omega arith) (sized w) took _ so)
 
 add-i : tie.Need-add-i Inv-loop μ-loop
 add-i c = omega arith
@@ -114,14 +93,16 @@ loop-again c =
     let d = c .before .before in
     let t = d .before .before in
     let k = t .before .before in
-    let w = k .before in
+    let w = k .before .before in
     let took = sym (k .take-items .ensures .0) ∙ ap (takenPaper _) (t .t .given .1) in
-    let goes = sym (d .stage-decides .ensures) ∙ ap decisionPaper (c .enum-told3 .given .1) in (
+    let goes =
+    ap (λ (s : Stage). stageDecides s (t .t .given .0 .0)) (sym (w .stage-at .ensures))
+    ∙ sym (d .stage-decides .ensures) ∙ ap decisionPaper (c .enum-told3 .given .1) in (
       omega arith,
       taken-there _ _ _ _ _ _ _ (omega arith) took,
       omega arith,
       omega (arith, k .take-items .ensures .1, ap takenTotal (t .t .given .1)),
-      staged-goes (w .before .before .before .loop .inv .4) (omega arith) (w .wide .ensures .0) took goes,
+      staged-goes (w .before .before .loop .inv .4) (omega arith) (sized w) took goes,
     )
 
 returns-4 : tie.Need-returns-4 Inv-loop μ-loop
@@ -133,26 +114,25 @@ staged-walk-spec =
     (tie.spec
     Inv-loop
     μ-loop
-    cast-stages
+    (λ c. search needs)
     loop-holds
-    mul-wide
-    element-copy-out-wide
-    wide-requires
+    (λ c κs. search needs)
+    (λ c. search needs)
     take-items-requires
-    enum-told
+    (λ c. search needs)
     returns
-    enum-told-2
+    (λ c. search needs)
     returns-2
-    enum-known-t
+    (λ c. search needs)
     add-used
-    stage-decides-requires
-    enum-known-accepted
-    cast-t23
-    add-t24
-    cast-t25
+    (λ c κs. search needs)
+    (λ c. search needs)
+    cast-t16
+    add-t17
+    cast-t18
     ended-with-requires
     returns-3
-    enum-told-3
+    (λ c. search needs)
     add-i
     loop-less
     loop-again

@@ -17,9 +17,6 @@ Inv-loop column k total sample from count end t₀ i₀ t i =
 abbrev μ-loop : tie.MeasureT-loop
 μ-loop column k total sample from count end t₀ i₀ t i = end - i
 
-count-requires : tie.Need-count-requires Inv-loop μ-loop
-count-requires c κs = search needs
-
 add-end : tie.Need-add-end Inv-loop μ-loop
 add-end c = omega arith
 
@@ -30,12 +27,6 @@ returns : tie.Need-returns Inv-loop μ-loop
 returns c =
     let at = c .before .before in
     (sym (taking-missing (at .loop .inv .3) (omega arith) (omega (arith, at .before .count .ensures))), omega arith)
-
-number-requires : tie.Need-number-requires Inv-loop μ-loop
-number-requires c κs = search needs
-
-is-illegal-requires : tie.Need-is-illegal-requires Inv-loop μ-loop
-is-illegal-requires c κs = search needs
 
 returns-2 : tie.Need-returns-2 Inv-loop μ-loop
 returns-2 c =
@@ -70,18 +61,5 @@ returns-3 c = (sym (taking-done (c .before .loop .inv .3) (omega arith)), omega 
 pub take-items-spec : {M : Type 1} → statement M
 take-items-spec =
     tie.close
-    (tie.spec
-    Inv-loop
-    μ-loop
-    count-requires
-    add-end
-    loop-holds
-    returns
-    number-requires
-    is-illegal-requires
-    returns-2
-    add-t
-    add-i
-    loop-less
-    loop-again
-    returns-3)
+    (tie.spec Inv-loop μ-loop (λ c κs. search needs) add-end loop-holds returns (λ c κs. search needs)
+    (λ c κs. search needs) returns-2 add-t add-i loop-less loop-again returns-3)
