@@ -1,6 +1,6 @@
 -- An entry's checks: what they let through and what they refuse does not hang on the answer that stands behind them.
 -- Assumes nothing.
-use Prim.Native.Nat.{ℕ, zero, suc, _≤_, _<_}
+use Prim.Native.Nat.{ℕ, zero, suc, _≤_}
 use mathlib.Core.Path.{_≡_, refl, ap, sym, _∙_}
 use mathlib.Core.Bool.{Bool, true, false, cond}
 use mathlib.Core.List.{List, [], _∷_}
@@ -12,6 +12,7 @@ use Rattle.rules.specs.Refusals.{noPlan}
 use Rattle.rules.specs.Codes.{reduced, letterChecks, letterOf, tableOneLetter}
 use Rattle.rules.specs.Entries.{Asked, askedChecks, askedLetter, plainPlan}
 use Rattle.rules.specs.Single.{Plan, planAt, landingOf, tablePlan}
+use Rattle.rules.specs.Planning.{Plannable}
 use Rattle.rules.proofs.Answers.{refused-given, given-one}
 use Rattle.rules.proofs.Bounded.{by-le}
 
@@ -55,13 +56,6 @@ pub kept : {A B : Type 0} (cs : List Check) (a : A) (n p : ℕ) (y : Answer B) �
 kept [] a n p y e = absurd (refused-given (sym e))
 kept (c ∷ cs) a n p y e =
     kept-at (c .wrong) (c .number) (c .place) n p (firstOf cs (given a)) (firstOf cs y) (kept cs a n p y) e
-
--- What a lot that can be planned is known to be.
-pub record Plannable (q : Asked) : Type 0 where
-  pub severity : q .severity < 3
-  pub size : 2 ≤ q .size
-  pub level : q .level < 7
-  pub column : q .column < 26
 
 pub plannable : {A : Type 0} (q : Asked) (x : Answer A) (a : A) → firstOf (askedChecks q) x ≡ given a → Plannable q
 unfolding wrongAt

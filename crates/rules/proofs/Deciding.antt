@@ -1,7 +1,7 @@
 -- Which samples are judged, with no walk in it: a sequential or staged sample has a verdict exactly where its last item
 -- (stage) decides, no earlier one does, all items are legal, and the items used are the sample's length.
 -- Assumes nothing.
-use Prim.Native.Nat.{ℕ, zero, suc, _+_, _-_, _*_, _≤_, _<_, suc-le-suc}
+use Prim.Native.Nat.{ℕ, zero, suc, _+_, _-_, _≤_, _<_, suc-le-suc}
 use mathlib.Core.Path.{_≡_, refl, sym, ap, _∙_}
 use mathlib.Core.Logic.{_↔_, _⊎_, inl, inr}
 use mathlib.Core.Bool.{Bool, true, false, cond}
@@ -14,25 +14,23 @@ use lib.Dec.{leb, ltb}
 use lib.ListN.{length, getD, take}
 use Rattle.rules.specs.Refusals.{Answer, refused, given, illegalItem}
 use Rattle.rules.specs.Numbers.{numbersOf, halfLeft, sumOf}
-use Rattle.rules.specs.Codes.{illegal, anyIllegal}
 use Rattle.rules.specs.Verdict.{Verdict, accepts, rejects, goesOn, ended, decided}
 use Rattle.rules.specs.Sequential.{SequentialPlan, itemDecides, sequentialVerdict, sequentialFrom, judgeSequence}
 use Rattle.rules.specs.Staged.{Stage, StagedPlan, stagesFrom, stagesOf, totalSize, stageDecides, Taken}
 use Rattle.rules.specs.Staged.{stageAt, missing, over}
 use Rattle.rules.specs.Staged.{taken, takeItems, Standing, stagedVerdict, afterStage, stagedFrom}
 use Rattle.rules.specs.Staged.{judgeStages}
-use Rattle.rules.proofs.Parts.{Part, endOf, decidesAt, says, Decides, Say, afterPart, walk, Judged, sound}
+use Rattle.rules.specs.Reporting.{Reports}
+use Rattle.rules.specs.Judging.{EndsAtItem, MeetsInStage, MeetsItem, SampleRows, says, sizeOfFirst}
+pub use Rattle.rules.specs.Judging.{EndsAtStage}
+use Rattle.rules.proofs.Parts.{Part, endOf, decidesAt, Decides, Say, afterPart, walk, Judged, sound}
 use Rattle.rules.proofs.Parts.{complete}
 use Rattle.rules.proofs.Parts.{Meets, Met, length-wrong, item-illegal, refused-met, meets-refused}
 use Rattle.rules.proofs.Bounded.{by-le, never}
-use Rattle.rules.proofs.Items.{IllegalAt, illegal-means, illegal-when, all-legal, no-half}
+use Rattle.rules.proofs.Items.{illegal-means, illegal-when, all-legal, no-half}
 use Rattle.rules.proofs.Answers.{refused-given}
-use Rattle.rules.proofs.Refusals.{Row, NoRow, Reports, stops, passes, nothing-wrong}
+use Rattle.rules.proofs.Refusals.{stops, passes, nothing-wrong}
 use Rattle.rules.proofs.Refusals.{refused-number, last-from}
-
--- 8 for an illegal item that a walk meets; 7 where it meets none and there is no verdict.
-abbrev pub SampleRows : (Verdict → Type 0) → Type 0 → ℕ → Type 0
-SampleRows Ends Meeting = Row 7 ((Meeting → ⊥) × ((v : Verdict) → Ends v → ⊥)) (Row 8 Meeting NoRow)
 
 met-kind : {Meeting : Type 0} (column total : ℕ) (ps : List Part) (xs : List ℕ) → (Meets column total ps xs → Meeting)
     → (n q : ℕ) → Met column total ps xs n q → ((n ≡ 7) × (q ≡ 0)) ⊎ ((n ≡ 8) × (q ≡ 0) × Meeting)
@@ -108,17 +106,6 @@ sequential-walk p half n d (x ∷ xs) part = on (ltb 1 x) (sequential-walk p hal
     on true e = refl
     on false e = rw (add-one n, e)
 
--- A sequential sample, and its verdict: "accept when .., reject when .."; "Each item is 0 or 1"; "The sample must end
--- at the very item .. that decides."
-pub record EndsAtItem (p : SequentialPlan) (sample : List ℕ) (v : Verdict) : Type 0 where
-  pub whole : length sample ≡ 2 * length (numbersOf sample)
-  pub some : 0 < length (numbersOf sample)
-  pub legal : IllegalAt 0 (numbersOf sample) → ⊥
-  pub last : itemDecides p (length (numbersOf sample)) (sumOf (numbersOf sample)) ≡ says (v .accepted)
-  pub earlier : (i : ℕ) → 0 < i → i < length (numbersOf sample)
-      → itemDecides p i (sumOf (take i (numbersOf sample))) ≡ goesOn
-  pub verdict : sequentialVerdict (length (numbersOf sample)) (sumOf (numbersOf sample)) (v .accepted) ≡ v
-
 module _ (p : SequentialPlan) (sample : List ℕ) where
   abbrev items : List ℕ
   items = numbersOf sample
@@ -181,14 +168,6 @@ module _ (p : SequentialPlan) (sample : List ℕ) where
         (judged-at v e)
         ∙ simp zero-add (ap given (e .verdict)),
   )
-
--- A sequential walk meets an item over 1 before any item decides.
-pub record MeetsItem (p : SequentialPlan) (sample : List ℕ) : Type 0 where
-  pub place : ℕ
-  pub there : place < length (numbersOf sample)
-  pub legal-before : anyIllegal 0 (take place (numbersOf sample)) ≡ false
-  pub too-much : 1 < getD (numbersOf sample) place 0
-  pub undecided : (i : ℕ) → 0 < i → i ≤ place → itemDecides p i (sumOf (take i (numbersOf sample))) ≡ goesOn
 
 module _ (p : SequentialPlan) (sample : List ℕ) where
   abbrev its : List ℕ
@@ -285,32 +264,6 @@ stage-decides (suc k) i (suc j) d plan h =
     stage-decides k (suc i) j d plan (le-of-suc-le-suc h)
     ∙ ap (λ (n : ℕ). stageDecides (stageAt plan n) d) (omega arith)
 
--- The items of the first j stages.
-abbrev pub sizeOfFirst : ℕ → StagedPlan → ℕ
-sizeOfFirst j plan = totalSize (stagesFrom j 0 plan)
-
--- A staged sample, and its verdict: "after each stage compare the running total"; "The sample must end at the very ..
--- stage .. that decides."
-pub record EndsAtStage (column : ℕ) (plan : StagedPlan) (sample : List ℕ) (v : Verdict) : Type 0 where
-  -- the stages before the one that decides
-  pub done : ℕ
-  pub among : done < plan .stages
-  pub whole : length sample ≡ 2 * length (numbersOf sample)
-  pub ends : length (numbersOf sample) ≡ sizeOfFirst (suc done) plan
-  pub legal : IllegalAt column (numbersOf sample) → ⊥
-  pub last : stageDecides (stageAt plan done) (sumOf (numbersOf sample)) ≡ says (v .accepted)
-  pub earlier : (i : ℕ) → i < done
-      → stageDecides (stageAt plan i) (sumOf (take (sizeOfFirst (suc i) plan) (numbersOf sample))) ≡ goesOn
-  pub verdict :
-      record {
-        accepted = v .accepted;
-        used = length (numbersOf sample);
-        total = sumOf (numbersOf sample);
-        stage = suc done;
-        stages = plan .stages;
-      }
-      ≡ v
-
 module _ (column : ℕ) (plan : StagedPlan) (sample : List ℕ) where
   abbrev itemsOf : List ℕ
   itemsOf = numbersOf sample
@@ -390,16 +343,6 @@ module _ (column : ℕ) (plan : StagedPlan) (sample : List ℕ) where
         (no-half sample .1 (e .whole)) (stage-judged v e)
         ∙ simp zero-add (ap given (e .verdict)),
   )
-
--- A staged walk meets an illegal item, among its stages, before any stage decides.
-pub record MeetsInStage (column : ℕ) (plan : StagedPlan) (sample : List ℕ) : Type 0 where
-  pub place : ℕ
-  pub there : place < length (numbersOf sample)
-  pub reached : place < sizeOfFirst (plan .stages) plan
-  pub legal-before : anyIllegal column (take place (numbersOf sample)) ≡ false
-  pub illegal-there : illegal column (getD (numbersOf sample) place 0) ≡ true
-  pub undecided : (i : ℕ) → i < plan .stages → sizeOfFirst (suc i) plan ≤ place
-      → stageDecides (stageAt plan i) (sumOf (take (sizeOfFirst (suc i) plan) (numbersOf sample))) ≡ goesOn
 
 module _ (column : ℕ) (plan : StagedPlan) (sample : List ℕ) where
   abbrev itsOf : List ℕ

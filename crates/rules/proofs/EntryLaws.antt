@@ -10,7 +10,7 @@ use native.Mathlib.Nat.{le-refl}
 use native.Mathlib.Omega.{arith}
 use borrow.Author.Tests.{ltb-true, ltb-false, lt-ltb, le-ltb, eqb-true, eq-eqb, ne-eqb, not-true, not-false, lt-leb}
 use lib.Dec.{ltb, eqb}
-use Rattle.rules.specs.Refusals.{Answer, refused, given, _gives_, firstOf, andThen, noPlan, unknownForm}
+use Rattle.rules.specs.Refusals.{Answer, given, _gives_, firstOf, andThen, noPlan, unknownForm}
 use Rattle.rules.specs.Verdict.{Verdict}
 use Rattle.rules.specs.Severity.{Lot, sampled, lot, resubmitted, Record, step, onLot, onResubmitted}
 use Rattle.rules.specs.Severity.{inRange}
@@ -20,16 +20,13 @@ use Rattle.rules.specs.Entries.{Offered, eventFor, closedWith, Lettered,
 use Rattle.rules.specs.Codes.{letterOf}
 use Rattle.rules.proofs.Answers.{refused-given, given-one, then-given}
 use Rattle.rules.proofs.LookUp.{broken-unsound}
-use Rattle.rules.proofs.Checks.{Plannable, plannable}
-use Rattle.rules.proofs.Refusals.{Row, NoRow, Then, Reports, check, stops, nothing-wrong}
+use Rattle.rules.proofs.Checks.{plannable}
+use Rattle.rules.proofs.Refusals.{check, stops, nothing-wrong}
 use Rattle.rules.proofs.Refusals.{chain, goes-on, first-given}
 use Rattle.rules.specs.Verdict.{Judged}
-
--- 1 to 5, "of every entry that judges or plans a lot", and then its own rows.
-abbrev pub LotRows : Asked → (ℕ → Type 0) → ℕ → Type 0
-LotRows q more =
-    Row 1 (3 < q .severity)
-    (Row 2 (q .size < 2) (Row 3 (6 < q .level) (Row 4 (25 < q .column) (Row 5 (q .severity ≡ 3) more))))
+use Rattle.rules.specs.Reporting.{NoRow, Reports, Row, Then}
+pub use Rattle.rules.specs.Reporting.{OnBook}
+use Rattle.rules.specs.Planning.{Closes, LotRows, NoPlan, Plannable, Supplies, above, no-entry}
 
 pub lot-reports : {A : Type 0} {more : ℕ → Type 0} {rest : Answer A} (q : Asked) → Reports 6 more rest
     → Reports 1 (LotRows q more) (firstOf (askedChecks q) rest)
@@ -55,11 +52,6 @@ pub lot-given : {A : Type 0} (q : Asked) (y : Answer A) (x : A)
     → (firstOf (askedChecks q) y ≡ given x) ↔ (Plannable q × (y ≡ given x))
 lot-given q y x =
     (λ e. (plannable q y x e, sym (lot-passes q y (plannable q y x e)) ∙ e), λ h. lot-passes q y (h .0) ∙ h .1)
-
--- "12 first", with its byte; of a sound book the lowest number.
-pub record OnBook {A : Type 0} (book : List ℕ) (Wrong : ℕ → Type 0) (a : Answer A) : Type 0 where
-  pub broken : (byte : ℕ) → checkBook book ≡ brokenAt byte → a ≡ refused 12 byte
-  pub else : checkBook book ≡ sound → Reports 1 Wrong a
 
 pub on-book : {A : Type 0} {Wrong : ℕ → Type 0} {a : Answer A} (book : List ℕ) → Reports 1 Wrong a
     → OnBook book Wrong (onSound (checkBook book) a)
@@ -93,34 +85,20 @@ module _ {P : Type 0} (section : ℕ) (needed : List ℕ → ℕ) (planOf : List
       (firstOf (askedChecks q)
       (fromEntry (lookedUp section q book) (λ e. unlessAbove (q .size) (needed e) (planOf e))))
 
-  -- "no book entry under the key, or a staged total, nt or variables n above the lot size"
-  pub data NoPlan : Type 0 where
-    no-entry : lookedUp section q book ≡ nothing → NoPlan
-    above : (e : List ℕ) → lookedUp section q book ≡ found e → q .size < needed e → NoPlan
-
-  above-so : (e : List ℕ) → lookedUp section q book ≡ found e → NoPlan → q .size < needed e
+  above-so : (e : List ℕ) → lookedUp section q book ≡ found e → NoPlan section needed q book → q .size < needed e
   above-so e l (no-entry n) = absurd (found-something (sym l ∙ n))
   above-so e l (above d f h) = subst (λ (x : List ℕ). q .size < needed x) (found-one (sym f ∙ l)) h
 
   entry-reports : (f : Found) → lookedUp section q book ≡ f
-      → Reports 6 (Row 6 NoPlan NoRow) (fromEntry f (λ e. unlessAbove (q .size) (needed e) (planOf e)))
+      → Reports 6 (Row 6 (NoPlan section needed q book) NoRow) (fromEntry f (λ e. unlessAbove (q .size) (needed e) (planOf e)))
   entry-reports nothing l = stops 6 (no-entry l) (le-refl 6) (λ m w. absurd w)
   entry-reports (found e) l =
       check 6 (ltb (q .size) (needed e)) (λ t. above e l (ltb-true (q .size) (needed e) t))
       (λ w. lt-ltb (q .size) (needed e) (above-so e l w)) (le-refl 6) nothing-wrong
 
-  pub book-plan-reports : OnBook book (LotRows q (Row 6 NoPlan NoRow)) fromBook
+  pub book-plan-reports : OnBook book (LotRows q (Row 6 (NoPlan section needed q book) NoRow)) fromBook
   unfolding fromBook
   book-plan-reports = on-book book (lot-reports q (entry-reports (lookedUp section q book) refl))
-
-  -- the entry under the key, within the lot
-  pub record Supplies (plan : P) : Type 0 where
-    pub book-sound : checkBook book ≡ sound
-    pub lot : Plannable q
-    pub entry : List ℕ
-    pub under-key : lookedUp section q book ≡ found entry
-    pub within-lot : needed entry ≤ q .size
-    pub is-plan : planOf entry ≡ plan
 
   entry-given : (plan : P) (f : Found) → fromEntry f (λ e. unlessAbove (q .size) (needed e) (planOf e)) ≡ given plan
       → (e : List ℕ) × (f ≡ found e) × (needed e ≤ q .size) × (planOf e ≡ plan)
@@ -129,11 +107,11 @@ module _ {P : Type 0} (section : ℕ) (needed : List ℕ → ℕ) (planOf : List
       let h = first-given ((ltb (q .size) (needed e) gives noPlan) ∷ []) (given (planOf e)) plan .0 g in
       (e, refl, ltb-false (q .size) (needed e) (h .0 .0), given-one (h .1))
 
-  pub book-plan-given : (plan : P) → (fromBook ≡ given plan) ↔ Supplies plan
+  pub book-plan-given : (plan : P) → (fromBook ≡ given plan) ↔ Supplies section needed planOf q book plan
   unfolding fromBook
   book-plan-given plan = (so, back)
     where
-      so : fromBook ≡ given plan → Supplies plan
+      so : fromBook ≡ given plan → Supplies section needed planOf q book plan
       so g =
           let b = sound-given (checkBook book) _ plan .0 g in
           let l = lot-given q _ plan .0 (b .1) in
@@ -147,7 +125,7 @@ module _ {P : Type 0} (section : ℕ) (needed : List ℕ → ℕ) (planOf : List
             is-plan = e .3;
           }
 
-      back : Supplies plan → fromBook ≡ given plan
+      back : Supplies section needed planOf q book plan → fromBook ≡ given plan
       back s =
           rw (s .book-sound)
           (lot-passes q _ (s .lot)
@@ -246,17 +224,10 @@ module _ {P : Type 0} (r : Record) (o : Offered) (judged : Answer (Judged P Verd
       let t = lot-steps r o (counts j) (inspected j e) in
       (record { judged = j; event = eventFor o (counts j); recordAfter = t .0 }, rw (t .1))))
 
-  -- taken into the record
-  pub record Closes (c : Closed P) : Type 0 where
-    pub in-range : inRange r ≡ true
-    pub as-judged : judged ≡ given (c .judged)
-    pub stands : c .event ≡ eventFor o (counts (c .judged))
-    pub stepped : step r (c .event) ≡ given (c .recordAfter)
-
-  pub closing-given : (c : Closed P) → (onRecord r (andThen judged (closedWith r o counts)) ≡ given c) ↔ Closes c
+  pub closing-given : (c : Closed P) → (onRecord r (andThen judged (closedWith r o counts)) ≡ given c) ↔ Closes r o judged counts c
   closing-given c = (so, λ k. rw (ap not (k .in-range), k .as-judged, ← k .stands, k .stepped))
     where
-      so : onRecord r (andThen judged (closedWith r o counts)) ≡ given c → Closes c
+      so : onRecord r (andThen judged (closedWith r o counts)) ≡ given c → Closes r o judged counts c
       so g =
           let h = first-given ((not (inRange r) gives unknownForm) ∷ []) _ c .0 g in
           let j = then-given judged (closedWith r o counts) c (h .1) in
@@ -279,7 +250,7 @@ module _ {P : Type 0} (r : Record) (o : Offered) (judged : Answer (Judged P Verd
 
   pub closing-book-given : (book : List ℕ) → ((j : Judged P Verdict) → judged ≡ given j → checkBook book ≡ sound)
       → (c : Closed P)
-      → (onSound (checkBook book) (onRecord r (andThen judged (closedWith r o counts))) ≡ given c) ↔ Closes c
+      → (onSound (checkBook book) (onRecord r (andThen judged (closedWith r o counts))) ≡ given c) ↔ Closes r o judged counts c
   closing-book-given book judged-sound c = (
     λ g. closing-given c .0 (sound-given (checkBook book) _ c .0 g .1),
     λ k. sound-given (checkBook book) _ c .1 (judged-sound (c .judged) (k .as-judged), closing-given c .1 k),

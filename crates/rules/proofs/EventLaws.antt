@@ -11,32 +11,20 @@ use Rattle.rules.specs.Refusals.{Answer, refused, given, andThen}
 use Rattle.rules.specs.Severity.{Lot, Event, lot, resubmitted, corrective, unknown, steadyIs, permissionIs}
 use Rattle.rules.specs.Severity.{Record, fresh, step, onLot, onResubmitted, onCorrective}
 use Rattle.rules.specs.History.{Work, eventIn, placed}
+use Rattle.rules.specs.Reporting.{NoRow, Reports, Row, here, later}
+use Rattle.rules.specs.Planning.{EventRows, FirstBad, IsLot}
 use Rattle.rules.proofs.Histories.{From, from-suc, from-first}
 use Rattle.rules.proofs.Bounded.{by-le, never}
 use Rattle.rules.proofs.Answers.{refused-given}
-use Rattle.rules.proofs.Refusals.{Row, here, later, NoRow, Reports, stops, passes, nothing-wrong, last-from}
+use Rattle.rules.proofs.Refusals.{stops, passes, nothing-wrong, last-from}
 use Rattle.rules.proofs.Refusals.{refused-number, refused-place}
 use Rattle.rules.proofs.EntryLaws.{lot-on}
 
--- An event: 1 for one of no known form, 5 for any lot while stopped, 10 for a corrective order when not stopped.
-abbrev pub IsLot : Event → Type 0
-IsLot (lot from l) = Unit
-IsLot resubmitted = Unit
-IsLot (steadyIs b) = ⊥
-IsLot (permissionIs b) = ⊥
-IsLot corrective = ⊥
-IsLot unknown = ⊥
-
 module _ (r : Record) where
-  abbrev pub EventRows : Event → ℕ → Type 0
-  EventRows e =
-      Row 1 (e ≡ unknown)
-      (Row 5 (IsLot e × (3 ≤ r .severity)) (Row 10 ((e ≡ corrective) × (r .severity < 3)) NoRow))
-
   -- nothing is wrong with an event that is none of these
   taken : {a : Record} (e : Event) → (e ≡ unknown → ⊥) → (IsLot e → r .severity < 3)
       → (e ≡ corrective → 3 ≤ r .severity)
-      → Reports 1 (EventRows e) (given a)
+      → Reports 1 (EventRows r e) (given a)
   taken e known inspected stopped =
       passes 1 known (omega arith)
       (passes 5 (λ w. let h = inspected (w .0) in omega arith) (omega arith)
@@ -49,7 +37,7 @@ module _ (r : Record) where
 
   -- a lot while stopped
   stopped-lot : (e : Event) → (e ≡ unknown → ⊥) → IsLot e → 3 ≤ r .severity
-      → Reports {A = Record} 1 (EventRows e) (refused 5 0)
+      → Reports {A = Record} 1 (EventRows r e) (refused 5 0)
   stopped-lot e known is h = passes 1 known (omega arith) (stops 5 (is, h) (omega arith) (last-from 10))
 
   lot-stopped : (s : ℕ) (l : Lot) → 3 ≤ s → onLot s l r ≡ refused 5 0
@@ -59,7 +47,7 @@ module _ (r : Record) where
   lot-stopped (suc (suc zero)) l h = absurd (omega arith)
   lot-stopped (suc (suc (suc s))) l h = refl
 
-  pub step-refused : (e : Event) → Reports 1 (EventRows e) (step r e)
+  pub step-refused : (e : Event) → Reports 1 (EventRows r e) (step r e)
   unfolding step onResubmitted onCorrective
   step-refused (lot from l) =
       by-le 3 (r .severity)
@@ -91,24 +79,17 @@ module _ (w : Work) (h : List ℕ) where
   abbrev pub After : ℕ → Answer Record
   After i = From w h (fresh (w .permission)) i
 
-  -- all bytes before the place are taken, and the byte there is refused
-  pub record FirstBad (n k : ℕ) : Type 0 where
-    pub so-far : Record
-    pub good : After k ≡ given so-far
-    pub place : ℕ
-    pub bad : step so-far (eventIn w (getD h k 0)) ≡ refused n place
-
-  pub first-bad : (m n k : ℕ) → After m ≡ refused n k → (k < m) × FirstBad n k
+  pub first-bad : (m n k : ℕ) → After m ≡ refused n k → (k < m) × FirstBad w h n k
   first-bad zero n k e =
       absurd (refused-given (sym e ∙ from-first w h (fresh (w .permission)) (fresh (w .permission)) refl))
   first-bad (suc m) n k e = on (After m) refl (sym (from-suc w h (fresh (w .permission)) m) ∙ e) (first-bad m n k)
     where
       on : (a : Answer Record) → After m ≡ a
           → andThen a (λ t. placed m (step t (eventIn w (getD h m 0)))) ≡ refused n k
-          → (After m ≡ refused n k → (k < m) × FirstBad n k) → (k < suc m) × FirstBad n k
+          → (After m ≡ refused n k → (k < m) × FirstBad w h n k) → (k < suc m) × FirstBad w h n k
       on (refused i p) q f more = let b = more (q ∙ f) in (le-trans (b .0) (omega arith), b .1)
       on (given t) q f more =
           let b = placed-refused m n k (step t (eventIn w (getD h m 0))) f in (
             omega (arith, b .2),
-            subst (λ (i : ℕ). FirstBad n i) (b .2) (record { so-far = t; good = q; place = b .0; bad = b .1 }),
+            subst (λ (i : ℕ). FirstBad w h n i) (b .2) (record { so-far = t; good = q; place = b .0; bad = b .1 }),
           )

@@ -17,7 +17,7 @@ use Rattle.rules.specs.Book.{kinds, variables, largestBook, Checked, sou
 use Rattle.rules.specs.Layout.{entryAt, keyBefore, sectionSize, sectionAt, bookEnd}
 use Rattle.rules.specs.Faults.{EntryFault, outOfRange, breaksRule}
 use Rattle.rules.specs.Faults.{keyStays, EntriesFault, SectionFault, SectionsFault, BookFault, tooLong}
-use Rattle.rules.specs.Faults.{wrongNumber, follows, missing}
+use Rattle.rules.specs.Faults.{wrongNumber, follows, missing, Lowest}
 use Rattle.rules.proofs.Bounded.{by-le}
 use Rattle.rules.proofs.Numbers.{numbers-low, numbers-high}
 use Rattle.rules.proofs.SectionKinds.{key-there, entry-deep}
@@ -299,11 +299,7 @@ sections-tell (k ∷ ks) deep ws =
     (omega arith))
     (x .fault)))
 
--- What is claimed of the check of a book: the byte reported is a fault, and none is lower; a sound book has none.
-pub record Lowest (bytes : List ℕ) (b : ℕ) : Type 0 where
-  pub applies : BookFault bytes b
-  pub least : (c : ℕ) → BookFault bytes c → b ≤ c
-
+-- what is claimed of the check of a book
 abbrev Claims : List ℕ → Checked → Type 0
 Claims bytes sound = (b : ℕ) → BookFault bytes b → ⊥
 Claims bytes (brokenAt b) = Lowest bytes b

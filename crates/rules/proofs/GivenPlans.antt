@@ -26,15 +26,15 @@ use Rattle.rules.specs.Entries.{Asked, stagedPlan, sequentialPlan}
 use Rattle.rules.specs.Entries.{variablesPlan, variablesEntry, stagedSection}
 use Rattle.rules.specs.Entries.{reducedSection, sequentialSection, variablesSection, singlePlan}
 use Rattle.rules.specs.Entries.{reducedPlan}
+use Rattle.rules.specs.Judging.{sizeOfFirst}
+use Rattle.rules.specs.Planning.{Plannable, SinglePlanned, Supplies}
+use Rattle.rules.specs.PlanRules.{Held}
 use Rattle.rules.proofs.Bounded.{by-le, all, all-at, all-at₃, both-left, both-right}
 use Rattle.rules.proofs.Tables.{letter-within, landing-letter}
-use Rattle.rules.proofs.Deciding.{sizeOfFirst, never-runs-out, never-past, sequence-decided}
-use Rattle.rules.proofs.EntryLaws.{Supplies}
+use Rattle.rules.proofs.Deciding.{never-runs-out, never-past, sequence-decided}
 use Rattle.rules.proofs.Demands.Two.{staged-plan-given, sequential-plan-given, variables-plan-given}
-use Rattle.rules.proofs.Demands.Two.{SinglePlanned}
 use Rattle.rules.proofs.Demands.Two.{single-plan-given}
-use Rattle.rules.proofs.Checks.{Plannable}
-use Rattle.rules.proofs.LookUp.{Held, found-in, found-under, found-held, entry-in-found}
+use Rattle.rules.proofs.LookUp.{found-in, found-under, found-held, entry-in-found}
 use Rattle.rules.proofs.HeldPlans.{SingleRight, cut-right, reduced-held}
 use Rattle.rules.proofs.HeldPlans.{SequentialRight, sequential-held, VariablesRight}
 use Rattle.rules.proofs.HeldPlans.{variables-held, variables-could}

@@ -20,11 +20,12 @@ use Rattle.rules.specs.Numbers.{numbersOf}
 use Rattle.rules.specs.Book.{checkBook, sound, kinds, kindAt, lookUp, Found, found, nothing}
 use Rattle.rules.specs.Variables.{VariablesPlan}
 use Rattle.rules.specs.Entries.{Asked, variablesEntry, reducedPlan}
+use Rattle.rules.specs.PlanRules.{Held}
 pub use Rattle.rules.specs.PlanRules.{SingleRight, VariablesRight, SequentialRight}
 use Rattle.rules.proofs.Bools.{and-left, and-right}
 use Rattle.rules.proofs.SectionKinds.{item-columns, entry-deep}
 use Rattle.rules.proofs.Steps.{sequential-at}
-use Rattle.rules.proofs.LookUp.{Held, held, found-held, found-under}
+use Rattle.rules.proofs.LookUp.{held, found-held, found-under}
 
 -- a number that is right is in its range, and keeps its rules
 module _ (k : Kind) (e : List ℕ) (h : Held k e) (p : ℕ) (l : p < sizeOf k e) where

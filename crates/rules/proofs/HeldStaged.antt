@@ -12,11 +12,11 @@ use Rattle.rules.specs.Book.{within, _to_, staged, acKeeps, reKeeps}
 use Rattle.rules.specs.Book.{stagedNumber, every, seven, stagedOf}
 use Rattle.rules.specs.Staged.{StagedPlan, Stage, stageAt, stageDecides, mark}
 use Rattle.rules.specs.Verdict.{accepts, rejects, goesOn}
+use Rattle.rules.specs.PlanRules.{Held}
 pub use Rattle.rules.specs.PlanRules.{StagedRight}
 use Rattle.rules.proofs.Bools.{and-left, and-right, or-unless}
 use Rattle.rules.proofs.Bounded.{by-le}
 use Rattle.rules.proofs.Steps.{staged-at}
-use Rattle.rules.proofs.LookUp.{Held}
 use Rattle.rules.proofs.HeldPlans.{in-range, keeps-rule}
 
 -- The numbers of a staged entry of m stages by stage: "neither number falls, Ac under Re, last Re = Ac + 1 .."

@@ -17,6 +17,7 @@ use Rattle.rules.specs.Codes.{illegal, anyIllegal}
 use Rattle.rules.proofs.Bools.{and-left, and-right, or-neither, false-unless}
 use Rattle.rules.proofs.Numbers.{numbers-low, numbers-high}
 use Rattle.rules.specs.Staged.{Taken, missing, over, taken, takeItems}
+use Rattle.rules.specs.Judging.{IllegalAt}
 
 pub sum-append : (xs ys : List ℕ) → sumOf (xs ++ ys) ≡ sumOf xs + sumOf ys
 unfolding sumOf
@@ -53,13 +54,6 @@ module _ (column : ℕ) where
   pub legal-join : (k : ℕ) (xs : List ℕ) → anyIllegal column (take k xs) ≡ false → anyIllegal column (drop k xs) ≡ false
       → anyIllegal column xs ≡ false
   legal-join k xs e f = rw take-append-drop at (legal-append (take k xs) (drop k xs) e f)
-
--- An "item over 1 where items are 0 or 1", at a place.
-pub record IllegalAt (column : ℕ) (xs : List ℕ) : Type 0 where
-  pub place : ℕ
-  pub there : place < length xs
-  pub counts : column ≤ 15
-  pub tooMuch : 1 < getD xs place 0
 
 pub illegal-means : (column x : ℕ) → illegal column x ≡ true → (column ≤ 15) × (1 < x)
 illegal-means column x e =

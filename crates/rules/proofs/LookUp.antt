@@ -17,16 +17,12 @@ use Rattle.rules.specs.Book.{largestBook, sound, brokenAt, checkedAs, ch
 use Rattle.rules.specs.Book.{keyFor, sameKey, seek, seekIn, lookUp, isEnd, couldHold}
 use Rattle.rules.specs.Faults.{EntryFault, keyStays}
 use Rattle.rules.specs.Layout.{entryAt, keyBefore, sectionSize, sectionAt, entryOf, sectionFrom, EntryIn}
+use Rattle.rules.specs.PlanRules.{Held}
 use Rattle.rules.proofs.Bools.{true-unless}
 use Rattle.rules.proofs.Walks.{broken-no-end, short-no-end, entry-ends}
 use Rattle.rules.proofs.Steps.{rises-less, rises-same}
 use Rattle.rules.proofs.SectionKinds.{key-there, entry-deep}
 use Rattle.rules.proofs.Faults.{Tells, Wrong, numbers-tell, wrong-is, Deep, entry-tells, section-tells, key-next}
-
--- An entry that a sound book could hold: its numbers are there, and each is right.
-pub record Held (k : Kind) (e : List ℕ) : Type 0 where
-  pub whole : sizeOf k e ≤ length e
-  pub each : (p : ℕ) → p < sizeOf k e → right k e p ≡ true
 
 module _ (k : Kind) (e : List ℕ) where
   told : Tells (Wrong k e 0 (sizeOf k e)) (sizeOf k e) (length e) (numbersFrom k e (sizeOf k e) 0)

@@ -3,7 +3,7 @@
 -- Assumes nothing.
 use Prim.Native.Nat.{ℕ, zero, suc, _+_, _-_, _≤_, _<_, suc-le-suc}
 use mathlib.Core.Path.{_≡_, refl, sym, ap, _∙_}
-use mathlib.Core.Bool.{Bool, true, false, cond}
+use mathlib.Core.Bool.{Bool, true, false}
 use mathlib.Core.List.{List, [], _∷_}
 use native.Mathlib.Nat.{add-zero, le-of-suc-le-suc}
 use native.Mathlib.Omega.{arith}
@@ -14,6 +14,7 @@ use Rattle.rules.specs.Numbers.{sumOf}
 use Rattle.rules.specs.Codes.{illegal, anyIllegal}
 use Rattle.rules.specs.Verdict.{Verdict, Decision, accepts, rejects, goesOn, ended, decided}
 use Rattle.rules.specs.Staged.{Taken, missing, over, taken, takeItems}
+use Rattle.rules.specs.Judging.{says}
 use Rattle.rules.proofs.Bounded.{by-le}
 use Rattle.rules.proofs.Answers.{refused-given, given-one}
 use Rattle.rules.proofs.Items.{sum-split, sum-take-add, legal-parts, legal-append, legal-split, legal-join}
@@ -36,9 +37,6 @@ decidesAt zero ps total = goesOn
 decidesAt (suc j) [] total = goesOn
 decidesAt (suc zero) (p ∷ ps) total = p .decides total
 decidesAt (suc (suc j)) (p ∷ ps) total = decidesAt (suc j) ps total
-
-abbrev pub says : Bool → Decision
-says accepted = cond accepted accepts rejects
 
 -- After a total, the items end with the part j, which decides.
 pub record Decides (column total : ℕ) (ps : List Part) (xs : List ℕ) (j : ℕ) (accepted : Bool) : Type 0 where

@@ -1,20 +1,20 @@
 -- How a closed lot counts: its points at normal, and what it counts elsewhere; the record takes an original lot as it
 -- counts; and lots closed at each edge, computed.
 -- Assumes nothing.
-use Prim.Native.Nat.{ℕ, _≤_, _<_}
+use Prim.Native.Nat.{ℕ}
 use mathlib.Core.Path.{_≡_, refl, sym, ap, _∙_}
-use mathlib.Core.Bool.{Bool, true, false, cond}
+use mathlib.Core.Bool.{Bool, false, cond}
 use mathlib.Core.List.{List, [], _∷_}
 use native.Mathlib.Omega.{arith}
 use borrow.Author.Tests.{le-leb, lt-leb, ne-eqb}
 use Rattle.rules.specs.Refusals.{Answer, refused, given}
-use Rattle.rules.specs.Codes.{normal, letterOf, rowOf, rowFrom}
+use Rattle.rules.specs.Codes.{letterOf, rowOf, rowFrom}
 use Rattle.rules.specs.Numbers.{numbersOf, numberBytes}
 use Rattle.rules.specs.Verdict.{Verdict, Judged}
 use Rattle.rules.specs.Single.{Plan, tablePlan, landing, boxAt, tighterAc}
 use Rattle.rules.specs.Staged.{StagedPlan, stagesFrom, totalSize, stageDecides, takeItems, stagedFrom}
 use Rattle.rules.specs.Staged.{judgeStages}
-use Rattle.rules.specs.Severity.{Lot, addThree, addTwo, scoreZero, notAccepted, sampled, lot, resubmitted}
+use Rattle.rules.specs.Severity.{Lot, sampled, lot, resubmitted}
 use Rattle.rules.specs.Severity.{Record, onNormal, onLot, step, figuresInRange, counted, singlePoints}
 use Rattle.rules.specs.Severity.{stagedPoints}
 use Rattle.rules.specs.Book.{checkBook, checkedAs, sections, section, entries, entry, shift, thenFrom, keyFalls}
@@ -22,14 +22,9 @@ use Rattle.rules.specs.Book.{rises, numbersFrom, right, stagedRule, stag
 use Rattle.rules.specs.Book.{seek, seekIn, lookUp, every}
 use Rattle.rules.specs.Entries.{Closed, Offered, singleCounts, stagedCounts, plainPlan, stagedPlan, judgeTotal}
 use Rattle.rules.specs.Entries.{judgeStaged, closeTotal, closeStaged}
-use Rattle.rules.proofs.EntryLaws.{Closes}
+use Rattle.rules.specs.Scoring.{SinglePoints, StagedPoints, Counts}
+use Rattle.rules.specs.Planning.{Closes}
 use Rattle.rules.proofs.Cases.{Case, _is_, AllAsSaid}
-
--- "Ac 2 or more: add 3 if the total is also within the Ac one column tighter .., else score 0. Ac 0 or 1: add 2."
-pub record SinglePoints (ac tighter total : ℕ) (l : Lot) : Type 0 where
-  pub low-ac : ac ≤ 1 → l ≡ addTwo
-  pub within-tighter : 2 ≤ ac → total ≤ tighter → l ≡ addThree
-  pub beyond-tighter : 2 ≤ ac → tighter < total → l ≡ scoreZero
 
 single-points : (ac tighter total : ℕ) → SinglePoints ac tighter total (singlePoints ac tighter total)
 single-points ac tighter total = record {
@@ -38,19 +33,8 @@ single-points ac tighter total = record {
   beyond-tighter = λ h k. rw (le-leb 2 ac h, lt-leb total tighter k);
 }
 
--- "Staged: add 3 if accepted at the first stage, else score 0."
-pub record StagedPoints (stage : ℕ) (l : Lot) : Type 0 where
-  pub first-stage : stage ≡ 1 → l ≡ addThree
-  pub later-stage : (stage ≡ 1 → ⊥) → l ≡ scoreZero
-
 staged-points : (stage stages : ℕ) → StagedPoints stage (stagedPoints stage stages)
 staged-points stage stages = record { first-stage = λ h. rw h; later-stage = λ h. rw (ne-eqb stage 1 h) }
-
--- How a lot counts that is closed under a severity: only normal keeps a score.
-pub record Counts (severity : ℕ) (accepted : Bool) (Points : Lot → Type 0) (l : Lot) : Type 0 where
-  pub rejected : accepted ≡ false → l ≡ notAccepted
-  pub without-score : accepted ≡ true → (severity ≡ normal → ⊥) → l ≡ scoreZero
-  pub with-score : accepted ≡ true → severity ≡ normal → Points l
 
 counts-as : (severity : ℕ) (accepted : Bool) (Points : Lot → Type 0) (l : Lot) → Points l
     → Counts severity accepted Points (counted severity accepted l)

@@ -2,62 +2,23 @@
 -- size, every size, every box. And what both columns of the master table share: along s no Ac falls, and at the same s
 -- the tightened Ac is at most the normal one.
 -- Assumes nothing.
-use Prim.Native.Nat.{ℕ, zero, suc, _+_, _*_, _≤_, _<_}
+use Prim.Native.Nat.{ℕ, _+_, _*_, _≤_, _<_}
 use mathlib.Core.Path.{_≡_, refl}
 use mathlib.Core.Bool.{Bool, true, false, cond, _&&_}
-use mathlib.Core.List.{List, [], _∷_, _++_, map}
+use mathlib.Core.List.{List, [], _∷_, map}
 use native.Mathlib.Omega.{arith}
 use native.Mathlib.Nat.{le-refl}
 use borrow.Author.Tests.{leb-true, leb-false}
 use lib.Dec.{T, leb, leb→le, le→leb, eqb, eqb→eq}
-use lib.ListN.{getD, replicate}
+use lib.ListN.{getD}
 use Rattle.rules.specs.Ascii.{ascii}
 use Rattle.rules.specs.Codes.{normal, tightened, upTo, tableOne, rowFrom, rowOf, letterOf}
 use Rattle.rules.specs.Single.{Box, down, up, number, sizes, rowAt, boxAt, acOf}
 use Rattle.rules.specs.Book.{sameKey}
 use Rattle.rules.specs.Log.{splitAt, space, decimal, digitsFrom}
+use Rattle.rules.specs.Printed.{names, printedRow, firstSize, printedBox, boxName}
 use Rattle.rules.proofs.Bounded.{both-left, both-right, implies, implies-at, all, all-at, all-at₂, all-at₃}
 use Rattle.rules.proofs.LookUp.{same-key}
-
--- "Letters 0 to 16"
-abbrev names : List ℕ
-names = ascii "ABCDEFGHJKLMNPQRS"
-
--- Table 1: the last size of a row (of the last one, the largest lot), and its letters in level order.
-pub record SizeRow : Type 0 where
-  pub last : ℕ
-  pub letters : List ℕ
-
-infix 20 _has_
-abbrev _has_ : ℕ → List ℕ → SizeRow
-last has letters = record { last = last; letters = letters }
-
-abbrev pub printedRows : List SizeRow
-printedRows =
-    (8 has ascii "AAAAAAB")
-    ∷ (15 has ascii "AAAAABC")
-    ∷ (25 has ascii "AABBBCD")
-    ∷ (50 has ascii "ABBCCDE")
-    ∷ (90 has ascii "BBCCCEF")
-    ∷ (150 has ascii "BBCDDFG")
-    ∷ (280 has ascii "BCDEEGH")
-    ∷ (500 has ascii "BCDEFHJ")
-    ∷ (1200 has ascii "CCEFGJK")
-    ∷ (3200 has ascii "CDEGHKL")
-    ∷ (10000 has ascii "CDFGJLM")
-    ∷ (35000 has ascii "CDFHKMN")
-    ∷ (150000 has ascii "DEGJLNP")
-    ∷ (500000 has ascii "DEGJMPQ")
-    ∷ (4294967295 has ascii "DEHKNQR")
-    ∷ []
-
-abbrev pub printedRow : ℕ → SizeRow
-printedRow i = getD printedRows i (0 has [])
-
--- the first size of a row
-abbrev pub firstSize : ℕ → ℕ
-firstSize zero = 2
-firstSize (suc i) = suc (printedRow i .last)
 
 row-from : (k : ℕ) (rows : List ℕ) (size : ℕ) → k ≤ rowFrom k rows size
 unfolding rowFrom
@@ -117,29 +78,6 @@ pub sizes-as-printed : map decimal sizes
     ≡ splitAt space (ascii "2 3 5 8 13 20 32 50 80 125 200 315 500 800 1250 2000 3150")
 unfolding splitAt digitsFrom
 sizes-as-printed = refl
-
--- The master table, normal and tightened: for each letter, the box of each s from 0 to 26, v for down and ^ for up.
-abbrev pub printedBoxes : List (List (List ℕ))
-printedBoxes =
-    ((ascii "v v v v v v v v v v v v v v 0 v v 1 2 3 5 7 10 14 21 30 44" ∷ [])
-    ++ replicate 4 (ascii "v v v v v v v v v v v v v v 0 ^ v 1 2 3 5 7 10 14 21 30 44")
-    ++ replicate 10 (ascii "v v v v v v v v v v v v v v 0 ^ v 1 2 3 5 7 10 14 21 ^ ^")
-    ++ (ascii "v v v v v v v v v v v v v v 0 ^ ^ 1 2 3 5 7 10 14 21 ^ ^" ∷ [])
-    ++ (ascii "v v v v v v v v v v v v v v 0 ^ v 1 2 3 5 7 10 14 21 ^ ^" ∷ []))
-    ∷ ((ascii "v v v v v v v v v v v v v v v 0 v v 1 2 3 5 8 12 18 27 41" ∷ [])
-    ++ replicate 4 (ascii "v v v v v v v v v v v v v v v 0 ^ v 1 2 3 5 8 12 18 27 41")
-    ++ replicate 12 (ascii "v v v v v v v v v v v v v v v 0 ^ v 1 2 3 5 8 12 18 ^ ^"))
-    ∷ []
-
--- "over 26": up
-abbrev pub printedBox : ℕ → ℕ → ℕ → List ℕ
-printedBox severity letter s =
-    getD (splitAt space (getD (getD printedBoxes severity []) letter [])) s (ascii "^")
-
-abbrev pub boxName : Box → List ℕ
-boxName down = ascii "v"
-boxName up = ascii "^"
-boxName (number ac) = decimal ac
 
 holds-so : (b : Bool) → T b → b ≡ true
 holds-so true t = refl

@@ -21,20 +21,9 @@ use Rattle.rules.specs.Severity.{lotNormal, lotTightened, lotReduced, on
 use Rattle.rules.specs.Severity.{onCorrective, step, scoreAndWindow, runAndCount, noScoreOrWindow}
 use Rattle.rules.specs.Severity.{noRunOrCount, figuresInRange, inRange}
 use Rattle.rules.specs.History.{afterFrom}
+use Rattle.rules.specs.Switching.{Within}
 use Rattle.rules.proofs.Answers.{given-one}
 use Rattle.rules.proofs.Append.{one-event}
-
--- What a record in range is, in plain inequalities; s is its severity. "every figure that its severity doesn't use is 0
--- (score and window belong to normal, run and count to tightened)"
-pub record Within (s : ℕ) (r : Record) : Type 0 where
-  pub severity-fits : s ≤ 3
-  pub score-fits : r .score ≤ 30
-  pub run-fits : r .run ≤ 4
-  pub count-fits : r .count ≤ 4
-  pub window-fits : r .window < 32
-  pub ones-fit : ones (r .window) ≤ 1
-  pub normal-alone : (s ≡ normal → ⊥) → (r .score ≡ 0) × (r .window ≡ 0)
-  pub tightened-alone : (s ≡ tightened → ⊥) → (r .run ≡ 0) × (r .count ≡ 0)
 
 both : (a b : Bool) → a && b ≡ true → (a ≡ true) × (b ≡ true)
 both a b h = and-eq-true-iff a b .0 h

@@ -8,33 +8,9 @@ use mathlib.Core.Bool.{Bool, true, false, cond, false≢true}
 use native.Mathlib.Nat.{le-antisymm, le-refl, le-trans}
 use mathlib.Core.List.{List, [], _∷_}
 use Rattle.rules.specs.Refusals.{Answer, refused, given, Check, firstOf, andThen}
+use Rattle.rules.specs.Reporting.{Lowest, Row, Then, after, before, here, later}
+pub use Rattle.rules.specs.Reporting.{NoRow, Reports}
 use Rattle.rules.proofs.Answers.{refused-given, given-one}
-
--- A row of 'Numbers the bench sees': the number, and the fact that it is given for; then the further rows.
-pub data Row (number : ℕ) (fact : Type 0) (more : ℕ → Type 0) : ℕ → Type 0 where
-  here : fact → Row number fact more number
-  later : {n : ℕ} → more n → Row number fact more n
-
--- no row
-abbrev pub NoRow : ℕ → Type 0
-NoRow n = ⊥
-
--- The rows of a first answer; and of what follows where that is given.
-pub data Then {A : Type 0} (first : ℕ → Type 0) (a : Answer A) (following : A → ℕ → Type 0) : ℕ → Type 0 where
-  before : {n : ℕ} → first n → Then first a following n
-  after : {n : ℕ} (x : A) → a ≡ given x → following x n → Then first a following n
-
--- n applies, and no lower number does
-pub record Lowest (Wrong : ℕ → Type 0) (n : ℕ) : Type 0 where
-  pub applies : Wrong n
-  pub no-lower : (m : ℕ) → Wrong m → n ≤ m
-
--- The answer reports what is wrong, none of it numbered below low: it is given where nothing is wrong, and is refused
--- by the lowest number that applies.
-pub record Reports {A : Type 0} (low : ℕ) (Wrong : ℕ → Type 0) (a : Answer A) : Type 0 where
-  pub from : (m : ℕ) → Wrong m → low ≤ m
-  pub if-given : (x : A) → a ≡ given x → (n : ℕ) → Wrong n → ⊥
-  pub if-refused : (n p : ℕ) → a ≡ refused n p → (p ≡ 0) × Lowest Wrong n
 
 pub refused-number : {A : Type 0} {n m p k : ℕ} → _≡_ {A = Answer A} (refused n p) (refused m k) → n ≡ m
 refused-number e = cc

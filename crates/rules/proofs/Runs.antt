@@ -16,7 +16,7 @@ use Rattle.rules.specs.Verdict.{Verdict, Judged}
 use Rattle.rules.specs.Severity.{sampled, Lot, addThree, addTwo, scoreZero, notAccepted, Event, lot}
 use Rattle.rules.specs.Severity.{resubmitted, steadyIs, permissionIs, corrective, unknown, Record, fresh, step}
 use Rattle.rules.specs.Severity.{inRange, started, onCorrective}
-use Rattle.rules.specs.Reading.{severityRead, recordRead}
+use Rattle.rules.specs.Reading.{severityRead}
 use Rattle.rules.specs.History.{Work, eventOf, eventIn, byteOf, placed, afterFrom, after}
 use Rattle.rules.specs.Book.{Checked, sound, brokenAt, checkBook, onSound}
 use Rattle.rules.specs.Entries.{Asked, Closed, Offered, askedOn, eventFor, singleCounts, stagedCounts}

@@ -16,6 +16,7 @@ use Rattle.rules.specs.Variables.{VariablesPlan, inGauge, allInGauge, su
 use Rattle.rules.specs.Variables.{withinSpread}
 use Rattle.rules.specs.Variables.{acceptsReadings}
 use Rattle.rules.specs.Screen.{mean, meanAndVariance, quotient, shownOf}
+use Rattle.rules.specs.Judging.{OutAt}
 use Rattle.rules.proofs.Bools.{true-unless}
 use Rattle.rules.proofs.Diff.{Diff, move, diff-pos, diff-add, diff-minus, diff-mul, diff-unique}
 
@@ -87,12 +88,6 @@ pub more-readings : (n : ℕ) (s w : ℤ) → 2 ≤ n
     → shownOf n s w ≡ meanAndVariance (quotient s n) (quotient (spread n s w) (n * (n - 1)))
 unfolding shownOf
 more-readings n s w h = rw (ne-eqb n 1 (λ e. omega arith))
-
--- A reading out of range, at a place.
-pub record OutAt (xs : List ℤ) : Type 0 where
-  pub place : ℕ
-  pub there : place < length xs
-  pub out : inGauge (getD xs place (pos 0)) ≡ false
 
 pub out-means : (xs : List ℤ) → allInGauge xs ≡ false → OutAt xs
 unfolding allInGauge

@@ -18,18 +18,18 @@ use Rattle.rules.specs.Verdict.{Verdict}
 use Rattle.rules.specs.Single.{Plan, singleVerdict, judgeItems}
 use Rattle.rules.specs.Variables.{VariablesPlan, readingsVerdict, allInGauge, readingsOf, judgeReadings, inGauge}
 use Rattle.rules.specs.Variables.{acceptsReadings}
+use Rattle.rules.specs.Reporting.{Reports}
+use Rattle.rules.specs.Judging.{Fits, ItemRows, ItemsJudged, OutOfGauge, ReadingRows}
+use Rattle.rules.specs.Judging.{ReadingsJudged, reading, the-limit}
 use Rattle.rules.proofs.Bools.{or-neither}
-use Rattle.rules.proofs.Refusals.{Row, NoRow, Reports, check, nothing-wrong}
+use Rattle.rules.proofs.Refusals.{check, nothing-wrong}
 use Rattle.rules.proofs.EntryLaws.{two-given}
-use Rattle.rules.proofs.SMethod.{OutAt, out-means, out-when, all-in}
-use Rattle.rules.proofs.Items.{IllegalAt, any-means, any-when, all-legal}
+use Rattle.rules.proofs.SMethod.{out-means, out-when, all-in}
+use Rattle.rules.proofs.Items.{any-means, any-when, all-legal}
 
 -- A single sample. 7 where it is not exactly the plan's n items, 8 for an item over 1 where items are 0 or 1.
 module _ (column : ℕ) (sample : List ℕ) (plan : Plan) where
-  abbrev pub ItemRows : ℕ → Type 0
-  ItemRows = Row 7 (length sample ≡ 2 * plan .n → ⊥) (Row 8 (IllegalAt column (numbersOf sample)) NoRow)
-
-  pub items-refused : Reports 7 ItemRows (judgeItems column plan sample)
+  pub items-refused : Reports 7 (ItemRows column sample plan) (judgeItems column plan sample)
   unfolding judgeItems
   items-refused =
       check 7 (not (eqb (length sample) (2 * plan .n)))
@@ -38,12 +38,7 @@ module _ (column : ℕ) (sample : List ℕ) (plan : Plan) where
       (check 8 (anyIllegal column (numbersOf sample)) (any-means column (numbersOf sample))
       (any-when column (numbersOf sample)) (le-refl 8) nothing-wrong)
 
-  pub record ItemsJudged (v : Verdict) : Type 0 where
-    pub whole : length sample ≡ 2 * plan .n
-    pub legal : IllegalAt column (numbersOf sample) → ⊥
-    pub verdict : singleVerdict plan (sumOf (numbersOf sample)) ≡ v
-
-  pub items-given : (v : Verdict) → (judgeItems column plan sample ≡ given v) ↔ ItemsJudged v
+  pub items-given : (v : Verdict) → (judgeItems column plan sample ≡ given v) ↔ ItemsJudged column sample plan v
   unfolding judgeItems
   items-given v = (
     λ g.
@@ -69,23 +64,16 @@ module _ (column : ℕ) (sample : List ℕ) (plan : Plan) where
 
 -- Readings. 7 where there are not exactly the plan's n, 9 for a reading or the limit out of range.
 module _ (upper : Bool) (limit : ℤ) (bytes : List ℕ) (plan : VariablesPlan) where
-  pub data OutOfGauge : Type 0 where
-    reading : OutAt (readingsOf bytes) → OutOfGauge
-    the-limit : inGauge limit ≡ false → OutOfGauge
-
-  abbrev pub ReadingRows : ℕ → Type 0
-  ReadingRows = Row 7 (length bytes ≡ 2 * plan .n → ⊥) (Row 9 OutOfGauge NoRow)
-
-  out-so : (a b : Bool) → allInGauge (readingsOf bytes) ≡ a → inGauge limit ≡ b → (not a || not b) ≡ true → OutOfGauge
+  out-so : (a b : Bool) → allInGauge (readingsOf bytes) ≡ a → inGauge limit ≡ b → (not a || not b) ≡ true → OutOfGauge limit bytes
   out-so false b e f t = reading (out-means (readingsOf bytes) e)
   out-so true false e f t = the-limit f
   out-so true true e f t = absurd (false≢true t)
 
-  out-then : OutOfGauge → (not (allInGauge (readingsOf bytes)) || not (inGauge limit)) ≡ true
+  out-then : OutOfGauge limit bytes → (not (allInGauge (readingsOf bytes)) || not (inGauge limit)) ≡ true
   out-then (reading o) = rw (out-when (readingsOf bytes) o)
   out-then (the-limit e) = rw e (or-true (not (allInGauge (readingsOf bytes))))
 
-  pub readings-refused : Reports 7 ReadingRows (judgeReadings upper plan limit bytes)
+  pub readings-refused : Reports 7 (ReadingRows limit bytes plan) (judgeReadings upper plan limit bytes)
   unfolding judgeReadings
   readings-refused =
       check 7 (not (eqb (length bytes) (2 * plan .n)))
@@ -94,18 +82,12 @@ module _ (upper : Bool) (limit : ℤ) (bytes : List ℕ) (plan : VariablesPlan) 
       (check 9 (not (allInGauge (readingsOf bytes)) || not (inGauge limit))
       (out-so (allInGauge (readingsOf bytes)) (inGauge limit) refl refl) out-then (le-refl 9) nothing-wrong)
 
-  pub record ReadingsJudged (v : Verdict) : Type 0 where
-    pub whole : length bytes ≡ 2 * plan .n
-    pub readings-in : OutAt (readingsOf bytes) → ⊥
-    pub limit-in : inGauge limit ≡ true
-    pub verdict : readingsVerdict plan (acceptsReadings upper plan limit (readingsOf bytes)) ≡ v
-
   in-both : (a b : Bool) → (not a || not b) ≡ false → (a ≡ true) × (b ≡ true)
   in-both true true e = (refl, refl)
   in-both true false e = absurd (false≢true (sym e))
   in-both false b e = absurd (false≢true (sym e))
 
-  pub readings-given : (v : Verdict) → (judgeReadings upper plan limit bytes ≡ given v) ↔ ReadingsJudged v
+  pub readings-given : (v : Verdict) → (judgeReadings upper plan limit bytes ≡ given v) ↔ ReadingsJudged upper limit bytes plan v
   unfolding judgeReadings
   readings-given v = (
     λ g.
@@ -144,12 +126,7 @@ module _ (bytes : List ℕ) where
       let few : ltb 100 (length bytes) ≡ false = le-ltb 100 (length bytes) (omega arith) in
       rw (even, some, few)
 
-  pub record Fits (n : ℕ) : Type 0 where
-    pub some : 1 ≤ n
-    pub few : n ≤ 50
-    pub whole : length bytes ≡ 2 * n
-
-  pub fit-so : unfit ≡ false → Fits (length bytes / 2)
+  pub fit-so : unfit ≡ false → Fits bytes (length bytes / 2)
   fit-so t =
       let a = or-neither (halfLeft bytes) (eqb (length bytes) 0 || ltb 100 (length bytes)) t in
       let b = or-neither (eqb (length bytes) 0) (ltb 100 (length bytes)) (a .1) in
@@ -158,6 +135,6 @@ module _ (bytes : List ℕ) where
       let few : length bytes ≤ 100 = ltb-false 100 (length bytes) (b .1) in
       record { some = omega arith; few = omega arith; whole = omega arith }
 
-  pub unfit-when : (t : Bool) → unfit ≡ t → ((n : ℕ) → Fits n → ⊥) → t ≡ true
+  pub unfit-when : (t : Bool) → unfit ≡ t → ((n : ℕ) → Fits bytes n → ⊥) → t ≡ true
   unfit-when true e w = refl
   unfit-when false e w = absurd (w (length bytes / 2) (fit-so e))

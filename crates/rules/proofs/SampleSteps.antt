@@ -18,10 +18,11 @@ use Rattle.rules.specs.Sequential.{SequentialPlan, itemDecides, sequenti
 use Rattle.rules.specs.Sequential.{judgeSequence}
 use Rattle.rules.specs.Staged.{StagedPlan, stageAt, stagesFrom, stageDecides, Taken, missing, over, taken}
 use Rattle.rules.specs.Staged.{takeItems, Standing, stagedVerdict, stagedFrom, judgeStages}
+use Rattle.rules.specs.Judging.{says}
 use Rattle.rules.proofs.Numbers.{numbers-next, numbers-end}
 use Rattle.rules.proofs.Bounded.{by-le}
 use Rattle.rules.proofs.Items.{Takes, takes, takes-so}
-use Rattle.rules.proofs.Parts.{says, decided-says}
+use Rattle.rules.proofs.Parts.{decided-says}
 
 -- "The sample must end at the very item (sequential) or stage (staged) that decides"
 module _ (s : List ℕ) (i : ℕ) (v : Verdict) where

@@ -7,18 +7,17 @@ use mathlib.Core.Bool.{Bool, true, false, cond, _&&_, _||_, not, true≢false}
 use mathlib.Core.List.{List}
 use mathlib.Core.Logic.{_↔_}
 use native.Mathlib.Omega.{arith}
-use borrow.Author.Tests.{leb-true, le-leb, lt-ltb, eqb-true, eqb-false, eq-eqb, ne-eqb}
+use borrow.Author.Tests.{le-leb, lt-ltb, eqb-true, eqb-false, eq-eqb}
 use lib.ListN.{length, getD, take, List·getD-eq-default}
 use lib.Dec.{ltb, leb, eqb}
-use Rattle.rules.specs.Book.{Walk, ends, broken, short, within, anything, _to_, right, numbersFrom, sizeOf}
+use Rattle.rules.specs.Book.{Walk, ends, broken, short, anything, right, numbersFrom}
 use Rattle.rules.specs.Book.{isEnd, couldHold, staged, acKeeps, reKeeps, stagedNumber, stagedRule, stagedOf}
 use Rattle.rules.specs.Staged.{StagedPlan, mark}
 use Rattle.rules.specs.PlanRules.{StagedRight, StagedEntry}
-use Rattle.rules.proofs.Bools.{and-left, and-right}
 use Rattle.rules.proofs.Bounded.{by-le}
 use Rattle.rules.proofs.Steps.{staged-at, staged-free}
 use Rattle.rules.proofs.Faults.{Tells, Wrong, numbers-tell}
-use Rattle.rules.proofs.LookUp.{Held, held}
+use Rattle.rules.proofs.LookUp.{held}
 use Rattle.rules.proofs.HeldPlans.{in-range}
 use Rattle.rules.proofs.HeldStaged.{ByStage, PlanByStage, size-number, ac-number, re-number, ac-first, re-first}
 use Rattle.rules.proofs.HeldStaged.{by-stage-as, seven-at, staged-held}

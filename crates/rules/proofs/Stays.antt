@@ -17,7 +17,7 @@ use Rattle.rules.specs.Severity.{corrective, unknown, due}
 use Rattle.rules.specs.Reading.{steadyIn, permissionIn, notAcceptedIn, runOf, scoreOf, Stay, stayOf}
 use Rattle.rules.specs.Reading.{readSettled, readNormal, readTightened, readReduced, readLot, readOrder}
 use Rattle.rules.specs.Reading.{readCorrective, readEvent, stayAfter, severityRead, lotsWith, staysBy, staysIn}
-use Rattle.rules.specs.Switching.{Every, AtMost25, originalLots, lotsOfAll, FirstIs, FirstIsNot}
+use Rattle.rules.specs.Switching.{Every, AtMost25, originalLots, lotsOfAll}
 use Rattle.rules.specs.Switching.{NeighboursDiffer, Whole}
 
 -- what keeps a tightened stay so short: no five accepted in a row, no fifth not accepted

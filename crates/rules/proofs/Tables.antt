@@ -9,6 +9,7 @@ use lib.Dec.{T, leb, leb→le, le→leb, eqb, eqb→eq, ltb, ltb→lt}
 use Rattle.rules.specs.Codes.{normal, tightened, letterA, letterR, letterOf, tableOne, rowOf}
 use Rattle.rules.specs.Single.{Box, down, up, number, boxAt, Landing, landed, follow, landing, arrows}
 use Rattle.rules.specs.Single.{landingOf, acOf, tighterAc}
+use Rattle.rules.specs.Printed.{Leads, there, downward, upward}
 use Rattle.rules.proofs.Bounded.{implies, implies-at, all, all-at₂, all-at₃, each-at, never}
 
 -- Table 1 has no letter past R.
@@ -33,14 +34,6 @@ has severity column letter = ltb (landingOf severity column letter .letter) 17
 has-all : T (all 2 (λ severity. all 26 (λ column. all 16 (has severity column))))
 unfolding has landing boxAt
 has-all = tt
-
--- Arrows as the table has them, counted: so many lead from a letter to a box with a number.
-pub data Leads (severity column : ℕ) : ℕ → ℕ → Landing → Type 0 where
-  there : (letter ac : ℕ) → boxAt severity column letter ≡ number ac → Leads severity column letter 0 (landed letter ac)
-  downward : (letter k : ℕ) (l : Landing) → boxAt severity column letter ≡ down → Leads severity column (letter + 1) k l
-      → Leads severity column letter (suc k) l
-  upward : (letter k : ℕ) (l : Landing) → boxAt severity column letter ≡ up → Leads severity column (letter - 1) k l
-      → Leads severity column letter (suc k) l
 
 led-to : (severity column letter k : ℕ) (l : Landing) → Leads severity column letter k l
     → boxAt severity column (l .letter) ≡ number (l .ac)

@@ -53,3 +53,8 @@ pub data BookFault (bytes : List ℕ) (b : ℕ) : Type 0 where
   follows : length bytes ≤ largestBook → 2 * bookEnd bytes < length bytes → b ≡ 2 * bookEnd bytes → BookFault bytes b
   -- "the book's length where a number is missing or half there"
   missing : length bytes ≤ largestBook → length (numbersOf bytes) < bookEnd bytes → b ≡ length bytes → BookFault bytes b
+
+-- What is claimed of the check of a book: the byte reported is a fault, and none is lower; a sound book has none.
+pub record Lowest (bytes : List ℕ) (b : ℕ) : Type 0 where
+  pub applies : BookFault bytes b
+  pub least : (c : ℕ) → BookFault bytes c → b ≤ c

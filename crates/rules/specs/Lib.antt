@@ -18,14 +18,21 @@ pub mod Terminal
 -- Second readings: the same said another way and proved to agree, so that a slip would have to be made in both alike.
 -- Reading says without a record what Severity says step by step (`agree`). Faults, by the places of Layout, says
 -- without a walk what Book finds (`lowest`, `sound-has-none`). Feeding says piece by piece what Log says of a whole
--- input (`any-pieces`).
+-- input (`any-pieces`). Printed has the two tables in document 01's letters, arrows and numbers (`letters-as-printed`,
+-- `boxes-as-printed`).
 pub mod Reading
 pub mod Layout
 pub mod Faults
+pub mod Printed
 pub mod Feeding
--- Words of theorems: what the plans of a sound book keep, what demand 3 says of a run of calls, of stays and of changes
--- of severity. No promise is written in these; they are read to know what the theorems claim.
+-- Words of theorems: what the plans of a sound book keep; what demand 2 says of refusals, samples, plans and points; what
+-- demand 3 says of a run of calls, of stays, of changes of severity and of lotlog. No promise is written in these; they
+-- are read to know what the theorems claim.
 pub mod PlanRules
+pub mod Reporting
+pub mod Judging
+pub mod Planning
+pub mod Scoring
 pub mod Runs
 pub mod Switching
 pub mod LogRuns

@@ -9,7 +9,12 @@ use Rattle.rules.specs.Single.{Plan}
 use Rattle.rules.specs.Staged.{StagedPlan, mark}
 use Rattle.rules.specs.Sequential.{SequentialPlan, onAcceptLine, onRejectLine}
 use Rattle.rules.specs.Variables.{VariablesPlan}
-use Rattle.rules.specs.Book.{stagedOf}
+use Rattle.rules.specs.Book.{Kind, right, sizeOf, stagedOf}
+
+-- An entry that a sound book could hold: its numbers are there, and each is right.
+pub record Held (k : Kind) (e : List ℕ) : Type 0 where
+  pub whole : sizeOf k e ≤ length e
+  pub each : (p : ℕ) → p < sizeOf k e → right k e p ≡ true
 
 -- "letter 0 to 15, column, n 1 to 3,150, Ac up to 65,534"
 pub record SingleRight (p : Plan) : Type 0 where

@@ -1,10 +1,11 @@
 -- What the laws of demand 3 say of stays and of changes of severity: what stays, by what each severity is left, what
--- stands when reduced starts, and what a history's stays are. Lots and events stand newest first. Definitions only.
-use Prim.Native.Nat.{ℕ, _≤_}
+-- stands when reduced starts, what a history's stays are, and what a record in range is. Lots and events stand newest first. Definitions only.
+use Prim.Native.Nat.{ℕ, _≤_, _<_}
 use mathlib.Core.Path.{_≡_}
 use mathlib.Core.Bool.{Bool, true, false}
 use mathlib.Core.List.{List, [], _∷_, _++_}
 use mathlib.Core.Logic.{_↔_}
+use lib.Count.{ones}
 use lib.ListN.{length, take}
 use Rattle.rules.specs.Codes.{normal, tightened, reduced, stopped}
 use Rattle.rules.specs.Severity.{Lot, accepted, Event, lot, resubmitted, steadyIs, permissionIs, corrective}
@@ -141,3 +142,15 @@ pub record Whole (severity : ℕ) (es : List Event) (ys : List Stay) : Type 0 wh
   pub all-lots : lotsOfAll ys ≡ originalLots es
   pub neighbours : NeighboursDiffer ys
   pub first-present : FirstIs severity ys
+
+-- What a record in range is, in plain inequalities; s is its severity. "every figure that its severity doesn't use is 0
+-- (score and window belong to normal, run and count to tightened)"
+pub record Within (s : ℕ) (r : Record) : Type 0 where
+  pub severity-fits : s ≤ 3
+  pub score-fits : r .score ≤ 30
+  pub run-fits : r .run ≤ 4
+  pub count-fits : r .count ≤ 4
+  pub window-fits : r .window < 32
+  pub ones-fit : ones (r .window) ≤ 1
+  pub normal-alone : (s ≡ normal → ⊥) → (r .score ≡ 0) × (r .window ≡ 0)
+  pub tightened-alone : (s ≡ tightened → ⊥) → (r .run ≡ 0) × (r .count ≡ 0)

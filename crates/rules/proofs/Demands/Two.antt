@@ -2,7 +2,7 @@
 -- reports 12 with its byte first, and of a sound book, as every other entry, the lowest number whose row holds
 -- (`refused-exactly`), and is given exactly where no row holds (`given-exactly`): nothing else is refused.
 -- Assumes nothing.
-use Prim.Native.Nat.{ℕ, suc, _/_, _≤_, _<_}
+use Prim.Native.Nat.{ℕ, _/_, _≤_, _<_}
 use mathlib.Core.Path.{_≡_, refl, sym, ap, subst, _∙_}
 use mathlib.Core.Logic.{_↔_, _⊎_, inl, inr}
 use mathlib.Core.Bool.{Bool, true, false, cond, _&&_, not, false≢true}
@@ -13,15 +13,15 @@ use borrow.Author.Tests.{ltb-true, ltb-false, lt-ltb, le-ltb, leb-true, le-leb, 
 use borrow.Author.Tests.{ne-eqb, not-true, not-false}
 use lib.Dec.{leb, ltb, eqb}
 use lib.IntN.{ℤ}
-use lib.ListN.{length, getD}
+use lib.ListN.{length}
 use Rattle.rules.specs.Refusals.{Answer, refused, given, _gives_, firstOf, andThen, illegalItem, bufferShort}
 use Rattle.rules.specs.Refusals.{noPlan, noSuchColumn, unknownForm}
 use Rattle.rules.specs.Codes.{reduced, countsItems, letterOf, tableOneLetter}
 use Rattle.rules.specs.Verdict.{Verdict, Judged}
 use Rattle.rules.specs.Single.{Plan, tablePlan, singleVerdict, judgeItems}
-use Rattle.rules.specs.Staged.{StagedPlan, stagesOf, totalSize, judgeStages}
+use Rattle.rules.specs.Staged.{StagedPlan, judgeStages}
 use Rattle.rules.specs.Sequential.{SequentialPlan, judgeSequence}
-use Rattle.rules.specs.Book.{variables, couldHold, sound, checkBook}
+use Rattle.rules.specs.Book.{variables, couldHold, checkBook}
 use Rattle.rules.specs.Book.{Found, found, nothing, stagedOf, sequentialOf, variablesOf}
 use Rattle.rules.specs.Entries.{unlessHeld, variablesEntry, Lettered, lettered}
 use Rattle.rules.specs.Entries.{singleSample, stagedSample, variablesSample, Asked}
@@ -32,27 +32,32 @@ use Rattle.rules.specs.Entries.{judgeVariables, totalOn, judgeTotal, nex
 use Rattle.rules.specs.Entries.{singleCounts, stagedCounts, closeSingle, closeStaged, closeTotal}
 use Rattle.rules.specs.Severity.{lot, Record, fresh, step, inRange}
 use Rattle.rules.specs.Variables.{VariablesPlan, allInGauge, readingsOf, judgeReadings, sumZ, squaresZ}
-use Rattle.rules.specs.Reading.{severityRead}
-use Rattle.rules.specs.History.{Work, eventIn, past, afterHistory, listed, leftIn}
+use Rattle.rules.specs.History.{Work, eventIn, afterHistory, listed, leftIn}
 use Rattle.rules.proofs.Histories.{from-refused, written-length, written-at, written-past}
 use Rattle.rules.specs.Screen.{Shown, screen, shownOf}
+use Rattle.rules.specs.Reporting.{NoRow, OnBook, Reports, Row, Then}
+use Rattle.rules.specs.Judging.{EndsAtItem, EndsAtStage, ItemRows, ItemsJudged, MeetsInStage, MeetsItem}
+use Rattle.rules.specs.Judging.{ReadingRows, ReadingsJudged, SampleRows, ScreenRows, Screened}
+use Rattle.rules.specs.Planning.{BufferListed, Closes, EventRows, FirstBad, LotRows, NoReduced}
+use Rattle.rules.specs.Planning.{PlainPlanRows, PlainPlanned, Plannable, SequentialPlanRows, SinglePlanRows}
+use Rattle.rules.specs.Planning.{SinglePlanned, StagedPlanRows, Supplies, TotalJudged, TotalRows}
+use Rattle.rules.specs.Planning.{VariablesPlanRows, sequentialNeeds, stagedNeeds, variablesNeeds}
 use Rattle.rules.proofs.Bounded.{by-le}
 use Rattle.rules.proofs.Bools.{and-left, and-right}
 use Rattle.rules.proofs.Answers.{refused-given, given-one, then-given}
-use Rattle.rules.proofs.Checks.{Plannable}
-use Rattle.rules.proofs.Refusals.{Row, NoRow, Then, Reports, check, stops, passes, nothing-wrong, chain}
+use Rattle.rules.proofs.Refusals.{check, stops, passes, nothing-wrong, chain}
 use Rattle.rules.proofs.Refusals.{seen-from, first-given, refused-number, refused-place}
-use Rattle.rules.proofs.Deciding.{SampleRows, EndsAtItem, MeetsItem, sequence-decided, sequence-reports}
-use Rattle.rules.proofs.Deciding.{EndsAtStage, MeetsInStage, stages-decided, stages-report}
-use Rattle.rules.proofs.EntryLaws.{LotRows, lot-reports, lot-passes, lot-given, OnBook, on-book, sound-given}
-use Rattle.rules.proofs.EntryLaws.{fromBook, NoPlan, book-plan-reports, Supplies, book-plan-given, two-given}
-use Rattle.rules.proofs.EntryLaws.{judged-on-book, judged-by, Closes, closing-reports, closing-given}
+use Rattle.rules.proofs.Deciding.{sequence-decided, sequence-reports}
+use Rattle.rules.proofs.Deciding.{stages-decided, stages-report}
+use Rattle.rules.proofs.EntryLaws.{lot-reports, lot-passes, lot-given, on-book, sound-given}
+use Rattle.rules.proofs.EntryLaws.{fromBook, book-plan-reports, book-plan-given, two-given}
+use Rattle.rules.proofs.EntryLaws.{judged-on-book, judged-by, closing-reports, closing-given}
 use Rattle.rules.proofs.EntryLaws.{closing-on-book, closing-book-given, lettered-on-book, lettered-by}
-use Rattle.rules.proofs.SMethod.{OutAt, out-means, out-when, all-in}
-use Rattle.rules.proofs.SampleLaws.{ItemRows, items-refused, ItemsJudged, items-given, ReadingRows}
-use Rattle.rules.proofs.SampleLaws.{readings-refused, ReadingsJudged, readings-given, unfit, fits, Fits}
+use Rattle.rules.proofs.SMethod.{out-means, out-when, all-in}
+use Rattle.rules.proofs.SampleLaws.{items-refused, items-given}
+use Rattle.rules.proofs.SampleLaws.{readings-refused, readings-given, unfit, fits}
 use Rattle.rules.proofs.SampleLaws.{fit-so, unfit-when}
-use Rattle.rules.proofs.EventLaws.{EventRows, step-refused, FirstBad, first-bad}
+use Rattle.rules.proofs.EventLaws.{step-refused, first-bad}
 
 -- The letter of a size and level, and of a lot.
 module _ (size level : ℕ) where
@@ -85,51 +90,37 @@ module _ (q : Asked) where
 
 -- 1. The single plan. 6 under reduced inspection, where the book has no entry under the key.
 module _ (q : Asked) (book : List ℕ) where
-  abbrev pub NoReduced : Type 0
-  NoReduced = (q .severity ≡ 2) × (lookedUp reducedSection q book ≡ nothing)
-
-  abbrev pub SinglePlanRows : ℕ → Type 0
-  SinglePlanRows = LotRows q (Row 6 NoReduced NoRow)
-
   plan-of : Bool → Found → Answer Plan
   plan-of t f =
       cond t (fromEntry f (λ e. given (reducedPlan q e)))
       (given (tablePlan (q .severity) (q .size) (q .level) (q .column)))
 
   plan-reports : (t : Bool) → eqb (q .severity) 2 ≡ t → (f : Found) → lookedUp reducedSection q book ≡ f
-      → Reports 6 (Row 6 NoReduced NoRow) (plan-of t f)
+      → Reports 6 (Row 6 (NoReduced q book) NoRow) (plan-of t f)
   unfolding plan-of
   plan-reports true s nothing l = stops 6 (eqb-true (q .severity) 2 s, l) (le-refl 6) (λ m w. absurd w)
   plan-reports true s (found e) l =
       passes 6 (λ w. let z : _≡_ {A = ℕ} 0 1 = cc (w .1) in omega arith) (le-refl 6) nothing-wrong
   plan-reports false s f l = passes 6 (λ w. eqb-false (q .severity) 2 s (w .0)) (le-refl 6) nothing-wrong
 
-  pub single-plan-refused : OnBook book SinglePlanRows (singlePlan q book)
+  pub single-plan-refused : OnBook book (SinglePlanRows q book) (singlePlan q book)
   unfolding singlePlan plan-of
   single-plan-refused =
       on-book book (lot-reports q (plan-reports (eqb (q .severity) 2) refl (lookedUp reducedSection q book) refl))
-
-  -- Under reduced inspection the book's entry, else the tables.
-  pub record SinglePlanned (plan : Plan) : Type 0 where
-    pub book-sound : checkBook book ≡ sound
-    pub lot : Plannable q
-    pub from-book : q .severity ≡ 2
-        → (e : List ℕ) × (lookedUp reducedSection q book ≡ found e) × (reducedPlan q e ≡ plan)
-    pub from-tables : (q .severity ≡ 2 → ⊥) → tablePlan (q .severity) (q .size) (q .level) (q .column) ≡ plan
 
   entry-is : (plan : Plan) (f : Found) → fromEntry f (λ e. given (reducedPlan q e)) ≡ given plan
       → (e : List ℕ) × (f ≡ found e) × (reducedPlan q e ≡ plan)
   entry-is plan nothing g = absurd (refused-given g)
   entry-is plan (found e) g = (e, refl, given-one g)
 
-  pub single-plan-given : (plan : Plan) → (singlePlan q book ≡ given plan) ↔ SinglePlanned plan
+  pub single-plan-given : (plan : Plan) → (singlePlan q book ≡ given plan) ↔ SinglePlanned q book plan
   unfolding singlePlan plan-of
   single-plan-given plan = (so, λ s. rw (s .book-sound) (lot-passes q _ (s .lot) ∙ back s (eqb (q .severity) 2) refl))
     where
       look : Found
       look = lookedUp reducedSection q book
 
-      so : singlePlan q book ≡ given plan → SinglePlanned plan
+      so : singlePlan q book ≡ given plan → SinglePlanned q book plan
       so g =
           let b = sound-given (checkBook book) _ plan .0 g in
           let l = lot-given q _ plan .0 (b .1) in
@@ -142,24 +133,12 @@ module _ (q : Asked) (book : List ℕ) where
                 λ s. given-one (sym (ap (λ (t : Bool). plan-of t look) (ne-eqb (q .severity) 2 s)) ∙ l .1);
           }
 
-      back : SinglePlanned plan → (t : Bool) → eqb (q .severity) 2 ≡ t → plan-of t look ≡ given plan
+      back : SinglePlanned q book plan → (t : Bool) → eqb (q .severity) 2 ≡ t → plan-of t look ≡ given plan
       back s true e = let f = s .from-book (eqb-true (q .severity) 2 e) in rw (f .1) (ap given (f .2))
       back s false e = ap given (s .from-tables (eqb-false (q .severity) 2 e))
 
   -- 2. The plans that only a book supplies. 6 where it has none under the key, or one above the lot size.
-  abbrev stagedNeeds : List ℕ → ℕ
-  stagedNeeds e = totalSize (stagesOf (stagedOf e))
-
-  abbrev sequentialNeeds : List ℕ → ℕ
-  sequentialNeeds e = sequentialOf e .nt
-
-  abbrev variablesNeeds : List ℕ → ℕ
-  variablesNeeds e = variablesOf e .n
-
-  abbrev pub StagedPlanRows : ℕ → Type 0
-  StagedPlanRows = LotRows q (Row 6 (NoPlan stagedSection stagedNeeds stagedOf q book) NoRow)
-
-  pub staged-plan-refused : OnBook book StagedPlanRows (stagedPlan q book)
+  pub staged-plan-refused : OnBook book (StagedPlanRows q book) (stagedPlan q book)
   unfolding stagedPlan fromBook
   staged-plan-refused = book-plan-reports stagedSection stagedNeeds stagedOf q book
 
@@ -168,10 +147,7 @@ module _ (q : Asked) (book : List ℕ) where
   unfolding stagedPlan fromBook
   staged-plan-given = book-plan-given stagedSection stagedNeeds stagedOf q book
 
-  abbrev pub SequentialPlanRows : ℕ → Type 0
-  SequentialPlanRows = LotRows q (Row 6 (NoPlan sequentialSection sequentialNeeds sequentialOf q book) NoRow)
-
-  pub sequential-plan-refused : OnBook book SequentialPlanRows (sequentialPlan q book)
+  pub sequential-plan-refused : OnBook book (SequentialPlanRows q book) (sequentialPlan q book)
   unfolding sequentialPlan fromBook
   sequential-plan-refused = book-plan-reports sequentialSection sequentialNeeds sequentialOf q book
 
@@ -180,10 +156,7 @@ module _ (q : Asked) (book : List ℕ) where
   unfolding sequentialPlan fromBook
   sequential-plan-given = book-plan-given sequentialSection sequentialNeeds sequentialOf q book
 
-  abbrev pub VariablesPlanRows : ℕ → Type 0
-  VariablesPlanRows = LotRows q (Row 6 (NoPlan variablesSection variablesNeeds variablesOf q book) NoRow)
-
-  pub variables-plan-refused : OnBook book VariablesPlanRows (variablesPlan q book)
+  pub variables-plan-refused : OnBook book (VariablesPlanRows q book) (variablesPlan q book)
   unfolding variablesPlan fromBook
   variables-plan-refused = book-plan-reports variablesSection variablesNeeds variablesOf q book
 
@@ -193,7 +166,7 @@ module _ (q : Asked) (book : List ℕ) where
   variables-plan-given = book-plan-given variablesSection variablesNeeds variablesOf q book
 
   -- Published with the lot's Table 1 letter: refused as the plan is, given exactly with that letter and that plan.
-  pub staged-lettered-refused : OnBook book StagedPlanRows (lettered q (stagedPlan q book))
+  pub staged-lettered-refused : OnBook book (StagedPlanRows q book) (lettered q (stagedPlan q book))
   staged-lettered-refused = lettered-on-book q (stagedPlan q book) book staged-plan-refused
 
   pub staged-lettered-given : (x : Lettered StagedPlan)
@@ -202,7 +175,7 @@ module _ (q : Asked) (book : List ℕ) where
       × Supplies stagedSection stagedNeeds stagedOf q book (x .plan))
   staged-lettered-given = lettered-by q (stagedPlan q book) _ staged-plan-given
 
-  pub sequential-lettered-refused : OnBook book SequentialPlanRows (lettered q (sequentialPlan q book))
+  pub sequential-lettered-refused : OnBook book (SequentialPlanRows q book) (lettered q (sequentialPlan q book))
   sequential-lettered-refused = lettered-on-book q (sequentialPlan q book) book sequential-plan-refused
 
   pub sequential-lettered-given : (x : Lettered SequentialPlan)
@@ -211,7 +184,7 @@ module _ (q : Asked) (book : List ℕ) where
       × Supplies sequentialSection sequentialNeeds sequentialOf q book (x .plan))
   sequential-lettered-given = lettered-by q (sequentialPlan q book) _ sequential-plan-given
 
-  pub variables-lettered-refused : OnBook book VariablesPlanRows (lettered q (variablesPlan q book))
+  pub variables-lettered-refused : OnBook book (VariablesPlanRows q book) (lettered q (variablesPlan q book))
   variables-lettered-refused = lettered-on-book q (variablesPlan q book) book variables-plan-refused
 
   pub variables-lettered-given : (x : Lettered VariablesPlan)
@@ -275,7 +248,7 @@ module _ (q : Asked) (book sample : List ℕ) where
       (λ plan v. sequence-decided plan sample v) j
 
   pub judge-variables-refused : (upper : Bool) (limit : ℤ)
-      → OnBook book (Then (VariablesPlanRows q book) (variablesPlan q book) (ReadingRows upper limit sample))
+      → OnBook book (Then (VariablesPlanRows q book) (variablesPlan q book) (ReadingRows limit sample))
       (judgeVariables upper q book limit sample)
   unfolding judgeVariables
   judge-variables-refused upper limit =
@@ -292,21 +265,13 @@ module _ (q : Asked) (book sample : List ℕ) where
 
 -- 4. A lot by its total, on a bench without a book. 6 under reduced inspection, 8 for a total over n where items count.
 module _ (q : Asked) where
-  abbrev pub PlainPlanRows : ℕ → Type 0
-  PlainPlanRows = LotRows q (Row 6 (q .severity ≡ 2) NoRow)
-
-  pub plain-plan-refused : Reports 1 PlainPlanRows (plainPlan q)
+  pub plain-plan-refused : Reports 1 (PlainPlanRows q) (plainPlan q)
   unfolding plainPlan
   plain-plan-refused =
       lot-reports q
       (check 6 (eqb (q .severity) 2) (eqb-true (q .severity) 2) (eq-eqb (q .severity) 2) (le-refl 6) nothing-wrong)
 
-  pub record PlainPlanned (plan : Plan) : Type 0 where
-    pub lot : Plannable q
-    pub not-reduced : q .severity ≡ 2 → ⊥
-    pub is-plan : tablePlan (q .severity) (q .size) (q .level) (q .column) ≡ plan
-
-  pub plain-plan-given : (plan : Plan) → (plainPlan q ≡ given plan) ↔ PlainPlanned plan
+  pub plain-plan-given : (plan : Plan) → (plainPlan q ≡ given plan) ↔ PlainPlanned q plan
   unfolding plainPlan
   plain-plan-given plan = (
     λ g.
@@ -317,10 +282,6 @@ module _ (q : Asked) where
   )
 
   module _ (total : ℕ) where
-    abbrev pub TotalRows : ℕ → Type 0
-    TotalRows =
-        Then PlainPlanRows (plainPlan q) (λ plan. Row 8 ((q .column ≤ 15) × (plan .n < total)) NoRow)
-
     over-so : (plan : Plan) → (countsItems (q .column) && ltb (plan .n) total) ≡ true
         → (q .column ≤ 15) × (plan .n < total)
     over-so plan t = (
@@ -332,7 +293,7 @@ module _ (q : Asked) where
         → (countsItems (q .column) && ltb (plan .n) total) ≡ true
     over-then plan h = rw (le-leb (q .column) 15 (h .0), lt-ltb (plan .n) total (h .1))
 
-    pub judge-total-refused : Reports 1 TotalRows (judgeTotal q total)
+    pub judge-total-refused : Reports 1 (TotalRows q total) (judgeTotal q total)
     unfolding judgeTotal
     judge-total-refused =
         chain (plainPlan q) plain-plan-refused
@@ -340,11 +301,6 @@ module _ (q : Asked) where
         seen-from 1 (omega arith)
         (check 8 (countsItems (q .column) && ltb (plan .n) total) (over-so plan) (over-then plan)
         (le-refl 8) nothing-wrong))
-
-    pub record TotalJudged (j : Judged Plan Verdict) : Type 0 where
-      pub planned : PlainPlanned (j .plan)
-      pub within-n : q .column ≤ 15 → total ≤ j .plan .n
-      pub verdict : singleVerdict (j .plan) total ≡ j .verdict
 
     not-over : (plan : Plan) (t : Bool) → (countsItems (q .column) && ltb (plan .n) total) ≡ t → t ≡ false
         → q .column ≤ 15 → total ≤ plan .n
@@ -357,11 +313,11 @@ module _ (q : Asked) where
         by-le (q .column) 15 (λ c. rw (le-leb (q .column) 15 c, le-ltb (plan .n) total (h c)))
         (λ c. rw (lt-leb (q .column) 15 c))
 
-    pub judge-total-given : (j : Judged Plan Verdict) → (judgeTotal q total ≡ given j) ↔ TotalJudged j
+    pub judge-total-given : (j : Judged Plan Verdict) → (judgeTotal q total ≡ given j) ↔ TotalJudged q total j
     unfolding judgeTotal
     judge-total-given j = (so, back)
       where
-        so : judgeTotal q total ≡ given j → TotalJudged j
+        so : judgeTotal q total ≡ given j → TotalJudged q total j
         so g =
             let p = then-given (plainPlan q) (totalOn (q .column) total) j g in
             let h = first-given ((countsItems (q .column) && ltb (p .0 .n) total gives illegalItem) ∷ []) _ j .0
@@ -378,7 +334,7 @@ module _ (q : Asked) where
                   ∙ ap (λ (k : Judged Plan Verdict). k .verdict) e;
             }
 
-        back : TotalJudged j → judgeTotal q total ≡ given j
+        back : TotalJudged q total j → judgeTotal q total ≡ given j
         back t =
             rw (plain-plan-given (j .plan) .1 (t .planned), right-total (j .plan) (t .within-n))
             (ap (λ (v : Verdict). given (record { plan = j .plan; verdict = v })) (t .verdict))
@@ -410,7 +366,7 @@ module _ (r : Record) (o : Offered) (book sample : List ℕ) where
       (λ j e. single-planned j e .book-sound)
 
   staged-planned : (j : Judged StagedPlan Verdict) → judgeStaged (askedOn r o) book sample ≡ given j
-      → Supplies stagedSection (stagedNeeds (askedOn r o) book) stagedOf (askedOn r o) book (j .plan)
+      → Supplies stagedSection (stagedNeeds) stagedOf (askedOn r o) book (j .plan)
   staged-planned j e =
       staged-plan-given (askedOn r o) book (j .plan) .0 (judge-staged-given (askedOn r o) book sample j .0 e .0)
 
@@ -466,10 +422,7 @@ module _ (r : Record) where
 
 -- 7. The screen: 7 unless there are 1 to 50 whole readings, 9 for one out of range.
 module _ (bytes : List ℕ) where
-  abbrev pub ScreenRows : ℕ → Type 0
-  ScreenRows = Row 7 ((n : ℕ) → Fits bytes n → ⊥) (Row 9 (OutAt (readingsOf bytes)) NoRow)
-
-  pub screen-refused : Reports 7 ScreenRows (screen bytes)
+  pub screen-refused : Reports 7 (ScreenRows bytes) (screen bytes)
   unfolding screen
   screen-refused =
       check 7 (unfit bytes) (λ t n f. false≢true (sym (fits bytes n (f .some) (f .few) (f .whole)) ∙ t))
@@ -479,13 +432,7 @@ module _ (bytes : List ℕ) where
       (λ t. out-means (readingsOf bytes) (not-true (allInGauge (readingsOf bytes)) t))
       (λ o. ap not (out-when (readingsOf bytes) o)) (le-refl 9) nothing-wrong)
 
-  pub record Screened (s : Shown) : Type 0 where
-    pub count : ℕ
-    pub fits-so : Fits bytes count
-    pub readings-in : OutAt (readingsOf bytes) → ⊥
-    pub shows : shownOf count (sumZ (readingsOf bytes)) (squaresZ (readingsOf bytes)) ≡ s
-
-  pub screen-given : (s : Shown) → (screen bytes ≡ given s) ↔ Screened s
+  pub screen-given : (s : Shown) → (screen bytes ≡ given s) ↔ Screened bytes s
   unfolding screen
   screen-given s = (
     λ g.
@@ -567,7 +514,7 @@ module _ (bytes : List ℕ) where
     couldBe = couldHold variables (variablesEntry plan)
 
     pub variables-sample-refused :
-        Reports 6 (Row 6 (couldBe ≡ false) (ReadingRows upper limit bytes plan))
+        Reports 6 (Row 6 (couldBe ≡ false) (ReadingRows limit bytes plan))
         (variablesSample upper plan limit bytes)
     unfolding variablesSample
     variables-sample-refused =
@@ -636,16 +583,11 @@ module _ (w : Work) (h : List ℕ) where
 
   -- What the lent buffer then holds: given, the severity after each byte, and the rest as it was.
   module _ (out : List ℕ) where
-    pub record BufferListed (left : List ℕ) : Type 0 where
-      pub same-length : length left ≡ length out
-      pub severities : (k : ℕ) → k < length h → getD left k 0 ≡ severityRead (w .permission) (past w h (suc k))
-      pub rest : (k : ℕ) → length h ≤ k → getD left k 0 ≡ getD out k 0
-
     pub listed-buffer : (m : ℕ) → listed w h (length out) ≡ given m
-        → BufferListed (leftIn (listed w h (length out)) w h out)
+        → BufferListed w h out (leftIn (listed w h (length out)) w h out)
     listed-buffer m g =
         let p = listed-given (length out) m .0 g in
-        subst (λ (a : Answer ℕ). BufferListed (leftIn a w h out)) (ap given (p .2) ∙ sym g)
+        subst (λ (a : Answer ℕ). BufferListed w h out (leftIn a w h out)) (ap given (p .2) ∙ sym g)
         record {
           same-length = written-length w h out (length h);
           severities = λ k l. written-at w h out (length h) k (p .1) l;

@@ -1,0 +1,133 @@
+-- What demand 2 says of a sample, with no walk in it: which samples are judged, with which verdict, and by which number
+-- the others are refused. Definitions only.
+use Prim.Native.Nat.{ℕ, suc, _*_, _≤_, _<_}
+use mathlib.Core.Path.{_≡_}
+use mathlib.Core.Bool.{Bool, true, false, cond}
+use mathlib.Core.List.{List}
+use lib.IntN.{ℤ, pos}
+use lib.ListN.{length, getD, take}
+use Rattle.rules.specs.Numbers.{numbersOf, sumOf}
+use Rattle.rules.specs.Codes.{illegal, anyIllegal}
+use Rattle.rules.specs.Verdict.{Verdict, Decision, accepts, rejects, goesOn}
+use Rattle.rules.specs.Single.{Plan, singleVerdict}
+use Rattle.rules.specs.Staged.{StagedPlan, stageAt, stagesFrom, totalSize, stageDecides}
+use Rattle.rules.specs.Sequential.{SequentialPlan, itemDecides, sequentialVerdict}
+use Rattle.rules.specs.Variables.{VariablesPlan, inGauge, readingsOf, readingsVerdict, acceptsReadings}
+use Rattle.rules.specs.Variables.{sumZ, squaresZ}
+use Rattle.rules.specs.Screen.{Shown, shownOf}
+use Rattle.rules.specs.Reporting.{Row, NoRow}
+
+-- An "item over 1 where items are 0 or 1", at a place.
+pub record IllegalAt (column : ℕ) (xs : List ℕ) : Type 0 where
+  pub place : ℕ
+  pub there : place < length xs
+  pub counts : column ≤ 15
+  pub tooMuch : 1 < getD xs place 0
+
+abbrev pub says : Bool → Decision
+says accepted = cond accepted accepts rejects
+
+-- A single sample. 7 where it is not exactly the plan's n items, 8 for an item over 1 where items are 0 or 1.
+abbrev pub ItemRows : ℕ → List ℕ → Plan → ℕ → Type 0
+ItemRows column sample plan =
+    Row 7 (length sample ≡ 2 * plan .n → ⊥) (Row 8 (IllegalAt column (numbersOf sample)) NoRow)
+
+pub record ItemsJudged (column : ℕ) (sample : List ℕ) (plan : Plan) (v : Verdict) : Type 0 where
+  pub whole : length sample ≡ 2 * plan .n
+  pub legal : IllegalAt column (numbersOf sample) → ⊥
+  pub verdict : singleVerdict plan (sumOf (numbersOf sample)) ≡ v
+
+-- A staged or sequential sample: 8 for an illegal item that a walk meets; 7 where it meets none and there is no verdict.
+abbrev pub SampleRows : (Verdict → Type 0) → Type 0 → ℕ → Type 0
+SampleRows Ends Meeting = Row 7 ((Meeting → ⊥) × ((v : Verdict) → Ends v → ⊥)) (Row 8 Meeting NoRow)
+
+-- A sequential sample, and its verdict: "accept when .., reject when .."; "Each item is 0 or 1"; "The sample must end
+-- at the very item .. that decides."
+pub record EndsAtItem (p : SequentialPlan) (sample : List ℕ) (v : Verdict) : Type 0 where
+  pub whole : length sample ≡ 2 * length (numbersOf sample)
+  pub some : 0 < length (numbersOf sample)
+  pub legal : IllegalAt 0 (numbersOf sample) → ⊥
+  pub last : itemDecides p (length (numbersOf sample)) (sumOf (numbersOf sample)) ≡ says (v .accepted)
+  pub earlier : (i : ℕ) → 0 < i → i < length (numbersOf sample)
+      → itemDecides p i (sumOf (take i (numbersOf sample))) ≡ goesOn
+  pub verdict : sequentialVerdict (length (numbersOf sample)) (sumOf (numbersOf sample)) (v .accepted) ≡ v
+
+-- A sequential walk meets an item over 1 before any item decides.
+pub record MeetsItem (p : SequentialPlan) (sample : List ℕ) : Type 0 where
+  pub place : ℕ
+  pub there : place < length (numbersOf sample)
+  pub legal-before : anyIllegal 0 (take place (numbersOf sample)) ≡ false
+  pub too-much : 1 < getD (numbersOf sample) place 0
+  pub undecided : (i : ℕ) → 0 < i → i ≤ place → itemDecides p i (sumOf (take i (numbersOf sample))) ≡ goesOn
+
+-- The items of the first j stages.
+abbrev pub sizeOfFirst : ℕ → StagedPlan → ℕ
+sizeOfFirst j plan = totalSize (stagesFrom j 0 plan)
+
+-- A staged sample, and its verdict: "after each stage compare the running total"; "The sample must end at the very ..
+-- stage .. that decides."
+pub record EndsAtStage (column : ℕ) (plan : StagedPlan) (sample : List ℕ) (v : Verdict) : Type 0 where
+  -- the stages before the one that decides
+  pub done : ℕ
+  pub among : done < plan .stages
+  pub whole : length sample ≡ 2 * length (numbersOf sample)
+  pub ends : length (numbersOf sample) ≡ sizeOfFirst (suc done) plan
+  pub legal : IllegalAt column (numbersOf sample) → ⊥
+  pub last : stageDecides (stageAt plan done) (sumOf (numbersOf sample)) ≡ says (v .accepted)
+  pub earlier : (i : ℕ) → i < done
+      → stageDecides (stageAt plan i) (sumOf (take (sizeOfFirst (suc i) plan) (numbersOf sample))) ≡ goesOn
+  pub verdict :
+      record {
+        accepted = v .accepted;
+        used = length (numbersOf sample);
+        total = sumOf (numbersOf sample);
+        stage = suc done;
+        stages = plan .stages;
+      }
+      ≡ v
+
+-- A staged walk meets an illegal item, among its stages, before any stage decides.
+pub record MeetsInStage (column : ℕ) (plan : StagedPlan) (sample : List ℕ) : Type 0 where
+  pub place : ℕ
+  pub there : place < length (numbersOf sample)
+  pub reached : place < sizeOfFirst (plan .stages) plan
+  pub legal-before : anyIllegal column (take place (numbersOf sample)) ≡ false
+  pub illegal-there : illegal column (getD (numbersOf sample) place 0) ≡ true
+  pub undecided : (i : ℕ) → i < plan .stages → sizeOfFirst (suc i) plan ≤ place
+      → stageDecides (stageAt plan i) (sumOf (take (sizeOfFirst (suc i) plan) (numbersOf sample))) ≡ goesOn
+
+-- A reading out of range, at a place.
+pub record OutAt (xs : List ℤ) : Type 0 where
+  pub place : ℕ
+  pub there : place < length xs
+  pub out : inGauge (getD xs place (pos 0)) ≡ false
+
+-- Readings. 7 where there are not exactly the plan's n, 9 for a reading or the limit out of range.
+pub data OutOfGauge (limit : ℤ) (bytes : List ℕ) : Type 0 where
+  reading : OutAt (readingsOf bytes) → OutOfGauge limit bytes
+  the-limit : inGauge limit ≡ false → OutOfGauge limit bytes
+
+abbrev pub ReadingRows : ℤ → List ℕ → VariablesPlan → ℕ → Type 0
+ReadingRows limit bytes plan = Row 7 (length bytes ≡ 2 * plan .n → ⊥) (Row 9 (OutOfGauge limit bytes) NoRow)
+
+pub record ReadingsJudged (upper : Bool) (limit : ℤ) (bytes : List ℕ) (plan : VariablesPlan) (v : Verdict) : Type 0
+  where
+    pub whole : length bytes ≡ 2 * plan .n
+    pub readings-in : OutAt (readingsOf bytes) → ⊥
+    pub limit-in : inGauge limit ≡ true
+    pub verdict : readingsVerdict plan (acceptsReadings upper plan limit (readingsOf bytes)) ≡ v
+
+-- The readings that a screen shows: 1 to 50, none half there. 7 for others, 9 for a reading out of range.
+pub record Fits (bytes : List ℕ) (n : ℕ) : Type 0 where
+  pub some : 1 ≤ n
+  pub few : n ≤ 50
+  pub whole : length bytes ≡ 2 * n
+
+abbrev pub ScreenRows : List ℕ → ℕ → Type 0
+ScreenRows bytes = Row 7 ((n : ℕ) → Fits bytes n → ⊥) (Row 9 (OutAt (readingsOf bytes)) NoRow)
+
+pub record Screened (bytes : List ℕ) (s : Shown) : Type 0 where
+  pub count : ℕ
+  pub fits-so : Fits bytes count
+  pub readings-in : OutAt (readingsOf bytes) → ⊥
+  pub shows : shownOf count (sumZ (readingsOf bytes)) (squaresZ (readingsOf bytes)) ≡ s

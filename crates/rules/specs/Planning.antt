@@ -1,0 +1,134 @@
+-- What demand 2 says of each entry that plans, judges or closes a lot, and of a history: the rows of its refusals, and
+-- what is known of what is given. Definitions only.
+use Prim.Native.Nat.{ℕ, suc, _≤_, _<_}
+use mathlib.Core.Path.{_≡_}
+use mathlib.Core.Bool.{true}
+use mathlib.Core.List.{List}
+use lib.ListN.{length, getD}
+use Rattle.rules.specs.Refusals.{Answer, refused, given}
+use Rattle.rules.specs.Verdict.{Verdict, Judged}
+use Rattle.rules.specs.Single.{Plan, tablePlan, singleVerdict}
+use Rattle.rules.specs.Staged.{stagesOf, totalSize}
+use Rattle.rules.specs.Severity.{Lot, Event, lot, resubmitted, steadyIs, permissionIs, corrective, unknown}
+use Rattle.rules.specs.Severity.{Record, step, inRange}
+use Rattle.rules.specs.Reading.{severityRead}
+use Rattle.rules.specs.History.{Work, eventIn, after, past}
+use Rattle.rules.specs.Book.{sound, checkBook, found, nothing, stagedOf, sequentialOf, variablesOf}
+use Rattle.rules.specs.Entries.{Asked, lookedUp, reducedSection, stagedSection, sequentialSection}
+use Rattle.rules.specs.Entries.{variablesSection, reducedPlan, plainPlan, Closed, Offered, eventFor}
+use Rattle.rules.specs.Reporting.{Row, NoRow, Then}
+
+-- 1 to 5, "of every entry that judges or plans a lot", and then its own rows.
+abbrev pub LotRows : Asked → (ℕ → Type 0) → ℕ → Type 0
+LotRows q more =
+    Row 1 (3 < q .severity)
+    (Row 2 (q .size < 2) (Row 3 (6 < q .level) (Row 4 (25 < q .column) (Row 5 (q .severity ≡ 3) more))))
+
+-- What a lot that can be planned is known to be.
+pub record Plannable (q : Asked) : Type 0 where
+  pub severity : q .severity < 3
+  pub size : 2 ≤ q .size
+  pub level : q .level < 7
+  pub column : q .column < 26
+
+-- The single plan. 6 under reduced inspection, where the book has no entry under the key.
+abbrev pub NoReduced : Asked → List ℕ → Type 0
+NoReduced q book = (q .severity ≡ 2) × (lookedUp reducedSection q book ≡ nothing)
+
+abbrev pub SinglePlanRows : Asked → List ℕ → ℕ → Type 0
+SinglePlanRows q book = LotRows q (Row 6 (NoReduced q book) NoRow)
+
+-- Under reduced inspection the book's entry, else the tables.
+pub record SinglePlanned (q : Asked) (book : List ℕ) (plan : Plan) : Type 0 where
+  pub book-sound : checkBook book ≡ sound
+  pub lot : Plannable q
+  pub from-book : q .severity ≡ 2
+      → (e : List ℕ) × (lookedUp reducedSection q book ≡ found e) × (reducedPlan q e ≡ plan)
+  pub from-tables : (q .severity ≡ 2 → ⊥) → tablePlan (q .severity) (q .size) (q .level) (q .column) ≡ plan
+
+-- The plans that only a book supplies, by the section and by how many items an entry needs. 6 for "no book entry under
+-- the key, or a staged total, nt or variables n above the lot size".
+pub data NoPlan (section : ℕ) (needed : List ℕ → ℕ) (q : Asked) (book : List ℕ) : Type 0 where
+  no-entry : lookedUp section q book ≡ nothing → NoPlan section needed q book
+  above : (e : List ℕ) → lookedUp section q book ≡ found e → q .size < needed e → NoPlan section needed q book
+
+-- the entry under the key, within the lot
+pub record Supplies {P : Type 0} (section : ℕ) (needed : List ℕ → ℕ) (planOf : List ℕ → P) (q : Asked) (book : List ℕ)
+    (plan : P) : Type 0 where
+  pub book-sound : checkBook book ≡ sound
+  pub lot : Plannable q
+  pub entry : List ℕ
+  pub under-key : lookedUp section q book ≡ found entry
+  pub within-lot : needed entry ≤ q .size
+  pub is-plan : planOf entry ≡ plan
+
+abbrev pub stagedNeeds : List ℕ → ℕ
+stagedNeeds e = totalSize (stagesOf (stagedOf e))
+
+abbrev pub sequentialNeeds : List ℕ → ℕ
+sequentialNeeds e = sequentialOf e .nt
+
+abbrev pub variablesNeeds : List ℕ → ℕ
+variablesNeeds e = variablesOf e .n
+
+abbrev pub StagedPlanRows : Asked → List ℕ → ℕ → Type 0
+StagedPlanRows q book = LotRows q (Row 6 (NoPlan stagedSection stagedNeeds q book) NoRow)
+
+abbrev pub SequentialPlanRows : Asked → List ℕ → ℕ → Type 0
+SequentialPlanRows q book = LotRows q (Row 6 (NoPlan sequentialSection sequentialNeeds q book) NoRow)
+
+abbrev pub VariablesPlanRows : Asked → List ℕ → ℕ → Type 0
+VariablesPlanRows q book = LotRows q (Row 6 (NoPlan variablesSection variablesNeeds q book) NoRow)
+
+-- A bench without a book. 6 under reduced inspection, 8 for a total over n where items count.
+abbrev pub PlainPlanRows : Asked → ℕ → Type 0
+PlainPlanRows q = LotRows q (Row 6 (q .severity ≡ 2) NoRow)
+
+pub record PlainPlanned (q : Asked) (plan : Plan) : Type 0 where
+  pub lot : Plannable q
+  pub not-reduced : q .severity ≡ 2 → ⊥
+  pub is-plan : tablePlan (q .severity) (q .size) (q .level) (q .column) ≡ plan
+
+abbrev pub TotalRows : Asked → ℕ → ℕ → Type 0
+TotalRows q total =
+    Then (PlainPlanRows q) (plainPlan q) (λ plan. Row 8 ((q .column ≤ 15) × (plan .n < total)) NoRow)
+
+pub record TotalJudged (q : Asked) (total : ℕ) (j : Judged Plan Verdict) : Type 0 where
+  pub planned : PlainPlanned q (j .plan)
+  pub within-n : q .column ≤ 15 → total ≤ j .plan .n
+  pub verdict : singleVerdict (j .plan) total ≡ j .verdict
+
+-- A lot closed: it is judged, and taken into the record as the event that it stands for.
+pub record Closes {P : Type 0} (r : Record) (o : Offered) (judged : Answer (Judged P Verdict))
+    (counts : Judged P Verdict → Lot) (c : Closed P) : Type 0 where
+  pub in-range : inRange r ≡ true
+  pub as-judged : judged ≡ given (c .judged)
+  pub stands : c .event ≡ eventFor o (counts (c .judged))
+  pub stepped : step r (c .event) ≡ given (c .recordAfter)
+
+-- An event: 1 for one of no known form, 5 for any lot while stopped, 10 for a corrective order when not stopped.
+abbrev pub IsLot : Event → Type 0
+IsLot (lot from l) = Unit
+IsLot resubmitted = Unit
+IsLot (steadyIs b) = ⊥
+IsLot (permissionIs b) = ⊥
+IsLot corrective = ⊥
+IsLot unknown = ⊥
+
+abbrev pub EventRows : Record → Event → ℕ → Type 0
+EventRows r e =
+    Row 1 (e ≡ unknown)
+    (Row 5 (IsLot e × (3 ≤ r .severity)) (Row 10 ((e ≡ corrective) × (r .severity < 3)) NoRow))
+
+-- A history: all bytes before the place are taken, and the byte there is refused.
+pub record FirstBad (w : Work) (h : List ℕ) (n k : ℕ) : Type 0 where
+  pub so-far : Record
+  pub good : after (w .permission) (past w h k) ≡ given so-far
+  pub place : ℕ
+  pub bad : step so-far (eventIn w (getD h k 0)) ≡ refused n place
+
+-- What the lent buffer then holds: the severity after each byte, and the rest as it was.
+pub record BufferListed (w : Work) (h out left : List ℕ) : Type 0 where
+  pub same-length : length left ≡ length out
+  pub severities : (k : ℕ) → k < length h → getD left k 0 ≡ severityRead (w .permission) (past w h (suc k))
+  pub rest : (k : ℕ) → length h ≤ k → getD left k 0 ≡ getD out k 0
