@@ -168,3 +168,12 @@ agree start (e ∷ es) r q =
 pub severity-agrees : (start : Bool) (es : List Event) (r : Record) → after start es ≡ given r
     → r .severity ≡ severityRead start es
 severity-agrees start es r q = ap (λ (x : Record). x .severity) (agree start es r q) ∙ severity-of _ _ _ _
+
+-- So are its steady and permission.
+pub orders-agree : (start : Bool) (es : List Event) (r : Record) → after start es ≡ given r
+    → (r .steady ≡ steadyIn es) × (r .permission ≡ permissionIn start es)
+orders-agree start es r q =
+    let e : r ≡ recordRead start es = agree start es r q in (
+      ap (λ (x : Record). x .steady) e ∙ steady-of _ _ _ _,
+      ap (λ (x : Record). x .permission) e ∙ permission-of _ _ _ _,
+    )

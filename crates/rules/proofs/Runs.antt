@@ -8,14 +8,15 @@ use mathlib.Core.List.{List, [], _∷_, _++_, map}
 use native.Mathlib.Omega.{arith}
 use mathlib.Core.Logic.{_⊎_, inl, inr}
 use borrow.Author.Tests.{le-leb}
+use lib.Dec.{leb}
 use lib.IntN.{ℤ}
 use lib.ListN.{length}
-use Rattle.rules.specs.Refusals.{Answer, refused, given, andThen, unknownForm}
+use Rattle.rules.specs.Refusals.{Answer, refused, given, andThen, unknownForm, notStopped}
 use Rattle.rules.specs.Codes.{tightened, stopped}
 use Rattle.rules.specs.Verdict.{Verdict, Judged}
 use Rattle.rules.specs.Severity.{sampled, Lot, addThree, addTwo, scoreZero, notAccepted, Event, lot}
 use Rattle.rules.specs.Severity.{resubmitted, steadyIs, permissionIs, corrective, unknown, Record, fresh, step}
-use Rattle.rules.specs.Severity.{inRange, started, onCorrective}
+use Rattle.rules.specs.Severity.{inRange, onCorrective}
 use Rattle.rules.specs.Reading.{severityRead}
 use Rattle.rules.specs.History.{Work, eventOf, eventIn, byteOf, placed, afterFrom, after}
 use Rattle.rules.specs.Book.{Checked, sound, brokenAt, checkBook, onSound}
@@ -312,18 +313,25 @@ ran-range w cs =
 
 -- A corrective order while stopped, typed or handed over, gives tightened.
 corrects : (r : Record) → inRange r ≡ true → r .severity ≡ stopped
-    → onRecord r (step r corrective) ≡ given (started tightened (r .steady) (r .permission))
+    → (t : Record) × (onRecord r (step r corrective) ≡ given t) × (t .severity ≡ tightened)
 unfolding step onCorrective
-corrects r h s = rw (h, le-leb stopped (r .severity) (omega arith))
+corrects r h s = (_, passes (step r corrective) h ∙ taken (leb stopped (r .severity)) _ stands, refl)
+  where
+    stands : leb stopped (r .severity) ≡ true
+    stands = le-leb stopped (r .severity) (omega arith)
+
+    passes : (a : Answer Record) → inRange r ≡ true → onRecord r a ≡ a
+    passes a h = rw h
+
+    taken : (d : Bool) (t : Record) → d ≡ true → cond d (given t) (refused notStopped 0) ≡ given t
+    taken d t e = rw e
 
 pub ran-corrected : (w : Work) (c : Call) (cs : List Call) → Corrects c → ran w cs .severity ≡ stopped
     → ran w (c ∷ cs) .severity ≡ tightened
 unfolding next eventIn eventOf
 ran-corrected w c cs (inl e) s =
-    rw e
-    (ap (λ (t : Record). t .severity)
-    (byte-records w cs 9 .recorded _ (corrects (ran w cs) (ran-range w cs) s) .0))
+    let t = corrects (ran w cs) (ran-range w cs) s in
+    rw e (ap (λ (t : Record). t .severity) (byte-records w cs 9 .recorded (t .0) (t .1) .0) ∙ t .2)
 ran-corrected w c cs (inr e) s =
-    rw e
-    (ap (λ (t : Record). t .severity)
-    (event-records w cs corrective .recorded _ (corrects (ran w cs) (ran-range w cs) s) .0))
+    let t = corrects (ran w cs) (ran-range w cs) s in
+    rw e (ap (λ (t : Record). t .severity) (event-records w cs corrective .recorded (t .0) (t .1) .0) ∙ t .2)

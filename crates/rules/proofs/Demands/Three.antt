@@ -15,7 +15,7 @@ use Rattle.rules.specs.Verdict.{Verdict, Judged}
 use Rattle.rules.specs.Codes.{normal, tightened, reduced, stopped}
 use Rattle.rules.specs.Severity.{Event, resubmitted, corrective, Record, fresh, step, inRange}
 use Rattle.rules.specs.Reading.{severityRead, recordRead, staysIn, isResubmitted}
-use Rattle.rules.specs.Reading.{withoutResubmitted, severitiesAt}
+use Rattle.rules.specs.Reading.{withoutResubmitted, severitiesAt, steadyIn, permissionIn}
 use Rattle.rules.specs.History.{Work, knows, eventOf, eventIn, afterFrom, after, past, afterHistory, withoutFours}
 use Rattle.rules.specs.Entries.{Asked, Offered, closeSingle, closeStaged}
 use Rattle.rules.specs.Entries.{closeTotal, next, onRecord, judgeSingle, judgeStaged, judgeTotal}
@@ -26,7 +26,7 @@ use Rattle.rules.specs.LogRuns.{callsAfter, heldFrom}
 use Rattle.rules.specs.Switching.{Every, AtMost25, Whole, NormalLeft, TightenedLeft, ReducedLeft, ReducedStarts}
 use Rattle.rules.proofs.Demands.Two.{close-single-given, close-staged-given, close-total-given}
 use Rattle.rules.proofs.Range.{step-range, after-range}
-use Rattle.rules.proofs.Agreement.{agree, severity-agrees}
+use Rattle.rules.proofs.Agreement.{agree, severity-agrees, orders-agree}
 use Rattle.rules.proofs.Stays.{tightened-stays, stays-whole}
 use Rattle.rules.proofs.Switches.{stopped-left, stopped-corrected, tightened-left, reduced-left, reduced-starts}
 use Rattle.rules.proofs.Leaving.{normal-left}
@@ -44,6 +44,11 @@ module _ (start : Bool) (es : List Event) (r : Record) (q : after start es ≡ g
 
   pub history-record : r ≡ recordRead start es
   history-record = agree start es r q
+
+  -- steady and permission are those last ordered, else those at the start: what each event leaves of them stands in
+  -- Orders (`steady-stays`, `permission-stays`, `no-order`)
+  pub history-orders : (r .steady ≡ steadyIn es) × (r .permission ≡ permissionIn start es)
+  history-orders = orders-agree start es r q
 
 pub bytes-record : (w : Work) (h : List ℕ) (r : Record) → afterHistory w h ≡ given r
     → r ≡ recordRead (w .permission) (reverse (map (eventIn w) h))
@@ -87,6 +92,10 @@ module _ (w : Work) (cs : List Call) where
   -- the events found from the calls and the written reading alone
   pub run-events : eventsRead w cs ≡ eventsRan w cs
   run-events = events-as-read w cs
+
+  pub run-orders : (ran w cs .steady ≡ steadyIn (eventsRan w cs))
+      × (ran w cs .permission ≡ permissionIn (w .permission) (eventsRan w cs))
+  run-orders = orders-agree (w .permission) (eventsRan w cs) (ran w cs) (ran-agrees w cs)
 
   pub run-record : ran w cs ≡ recordRead (w .permission) (eventsRan w cs)
   run-record = agree (w .permission) (eventsRan w cs) (ran w cs) (ran-agrees w cs)
