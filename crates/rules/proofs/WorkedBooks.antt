@@ -1,5 +1,6 @@
 -- Small books and what checking them finds, together, as one list under one claim: each kind of fault at its byte, and
 -- the numbers on both sides of each bound of each kind of section (the 16 bits of a number are a bound of their own).
+-- "At most 32,768 bytes" is proved of every book: `book-long` and `book-is` of Steps.
 -- Assumes nothing.
 use Prim.Native.Nat.{ℕ, _-_}
 use mathlib.Core.Path.{refl}
@@ -46,9 +47,6 @@ cases =
     ∷ (replicate 9 0 is brokenAt 8)
     ∷ (replicate 10 0 is brokenAt 8)
     ∷ (with 38 0 is brokenAt 78)
-    -- "At most 32,768 bytes"
-    ∷ (replicate 32768 0 is brokenAt 8)
-    ∷ (replicate 32769 0 is brokenAt 32768)
     -- "the entry's first number where its whole key doesn't rise": the same key, one lower by its second and by its
     -- first number, and a second number that is lower where the first rises
     ∷ (with 6 0 is brokenAt 10)
