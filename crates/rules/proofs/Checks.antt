@@ -12,7 +12,7 @@ use Rattle.rules.specs.Refusals.{noPlan}
 use Rattle.rules.specs.Codes.{reduced, letterChecks, letterOf, tableOneLetter}
 use Rattle.rules.specs.Entries.{Asked, askedChecks, askedLetter, plainPlan}
 use Rattle.rules.specs.Single.{Plan, planAt, landingOf, tablePlan}
-use Rattle.rules.specs.Planning.{Plannable}
+pub use Rattle.rules.specs.Planning.{Plannable}
 use Rattle.rules.proofs.Answers.{refused-given, given-one}
 use Rattle.rules.proofs.Bounded.{by-le}
 
