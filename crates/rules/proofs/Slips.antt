@@ -10,15 +10,13 @@ use lib.ListN.{length, replicate}
 use Rattle.rules.specs.Refusals.{Answer, refused, given}
 use Rattle.rules.specs.Codes.{normal, tightened, reduced, stopped}
 use Rattle.rules.specs.Severity.{onLot, onResubmitted, onOrder, onCorrective, step}
-use Rattle.rules.specs.Reading.{severityRead, stayAfter, steadyIn, permissionIn, notAcceptedIn, runOf}
+use Rattle.rules.specs.Reading.{stayAfter, steadyIn, permissionIn, notAcceptedIn, runOf}
 use Rattle.rules.specs.Reading.{pointsOf, readLot, readOrder, readEvent, isResubmitted, severitiesAt}
 use Rattle.rules.specs.History.{ours, past, eventIn, eventOf, afterFrom, listed, withoutFours}
 use Rattle.rules.specs.Entries.{Offered}
-use Rattle.rules.proofs.Cases.{Case, _is_, AllAsSaid}
 use Rattle.rules.specs.Runs.{Call, single, staged, total, byte, withoutResubmissions}
-
-ends : List ℕ → List ℕ
-ends h = severityRead (ours .permission) (past ours h (length h)) ∷ []
+use Rattle.rules.proofs.Cases.{Case, _is_, AllAsSaid}
+use Rattle.rules.proofs.Worked.{ends}
 
 -- a refusal with its place; how many severities are listed
 answered : Answer ℕ → List ℕ

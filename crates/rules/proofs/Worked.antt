@@ -55,7 +55,8 @@ afterNinety last =
 readings : List ℤ → ℕ → ℕ → List ℕ
 readings xs u k = yesNo (acceptsReadings true (record { n = 3; k = k }) (pos u) xs) ∷ []
 
-ends : List ℕ → List ℕ
+-- the severity that a history ends with, by the written reading
+unfoldable pub ends : List ℕ → List ℕ
 ends h = severityRead (ours .permission) (past ours h (length h)) ∷ []
 
 -- what the definitions give at each starred case, and what document 01 says, in its order
