@@ -17,6 +17,7 @@ use Rattle.rules.specs.Severity.{windowAfter, onLot, onResubmitted, onOr
 use Rattle.rules.specs.Reading.{steadyIn, permissionIn, severityRead, stayAfter, notAcceptedIn, runOf}
 use Rattle.rules.specs.Reading.{pointsOf, readLot, readOrder, readEvent}
 use Rattle.rules.specs.History.{ours, past, eventIn, eventOf, afterFrom, afterHistory}
+use Rattle.rules.specs.Terminal.{flag}
 use Rattle.rules.specs.Switching.{CarriedOver}
 use Rattle.rules.proofs.Answers.{refused-given, given-one}
 use Rattle.rules.proofs.Cases.{Case, _is_, AllAsSaid}
@@ -144,6 +145,25 @@ no-order r t (steadyIs b) m n q = absurd (m b refl)
 no-order r t (permissionIs b) m n q = absurd (n b refl)
 no-order r t corrective m n q = given-stands _ _ r t _ q (corrective-stands (leb stopped (r .severity)) r)
 no-order r t unknown m n q = absurd (refused-given q)
+
+-- steady and permission, 1 for yes
+ordersIn : Answer Record → List ℕ
+ordersIn (refused n p) = []
+ordersIn (given r) = flag (r .steady) ∷ flag (r .permission) ∷ []
+
+-- "5 steady, 6 not steady, 7 permission, 8 withdrawn": neither order touches the other
+pub byteCases : List (Case (List ℕ))
+byteCases =
+    (ordersIn (afterHistory ours []) is (0 ∷ 0 ∷ []))
+    ∷ (ordersIn (afterHistory ours (5 ∷ [])) is (1 ∷ 0 ∷ []))
+    ∷ (ordersIn (afterHistory ours (7 ∷ [])) is (0 ∷ 1 ∷ []))
+    ∷ (ordersIn (afterHistory ours (5 ∷ 7 ∷ 6 ∷ [])) is (0 ∷ 1 ∷ []))
+    ∷ (ordersIn (afterHistory ours (5 ∷ 7 ∷ 8 ∷ [])) is (1 ∷ 0 ∷ []))
+    ∷ []
+
+pub orders-by-byte : AllAsSaid byteCases
+unfolding byteCases ordersIn afterFrom past eventIn eventOf step onOrder
+orders-by-byte = refl
 
 severityIn : Answer Record → List ℕ
 severityIn (refused n p) = []

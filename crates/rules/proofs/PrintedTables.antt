@@ -15,7 +15,7 @@ use Rattle.rules.specs.Ascii.{ascii}
 use Rattle.rules.specs.Codes.{normal, tightened, upTo, tableOne, rowFrom, rowOf, letterOf}
 use Rattle.rules.specs.Single.{Box, down, up, number, sizes, rowAt, boxAt, acOf}
 use Rattle.rules.specs.Book.{sameKey}
-use Rattle.rules.specs.Log.{splitAt, space, decimal, digitsFrom}
+use Rattle.rules.specs.Log.{splitAt, space, decimal, digitsFrom, letterName}
 use Rattle.rules.specs.Printed.{names, printedRow, firstSize, printedBox, boxName}
 use Rattle.rules.proofs.Bounded.{both-left, both-right, implies, implies-at, all, all-at, all-at₂, all-at₃}
 use Rattle.rules.proofs.LookUp.{same-key}
@@ -72,6 +72,10 @@ pub letters-as-printed : (i size level : ℕ) → i < 15 → firstSize i ≤ siz
 unfolding letterOf named
 letters-as-printed i size level h low high l =
     rw (in-row i size h low high) (eqb→eq _ _ (all-at₂ 15 7 named named-all i level h l))
+
+-- lotlog prints these letters.
+pub letters-as-listed : (letter : ℕ) → letterName letter ≡ getD names letter 0 ∷ []
+letters-as-listed letter = refl
 
 -- "Sizes A to S"
 pub sizes-as-printed : map decimal sizes

@@ -1,17 +1,20 @@
 -- lotlog's listing where lots are offered again: judged at the present severity, normal and then tightened, and
--- changing nothing.
+-- changing nothing; and which order each letter is.
 -- Assumes nothing.
 use Prim.Native.Nat.{ℕ}
 use mathlib.Core.Path.{_≡_, refl}
-use mathlib.Core.List.{List, _++_}
+use mathlib.Core.List.{List, [], _∷_, _++_}
 use Rattle.rules.specs.Ascii.{ascii}
 use Rattle.rules.specs.Codes.{letterOf, rowOf, rowFrom}
 use Rattle.rules.specs.Single.{landing, boxAt, tablePlan, tighterAc}
-use Rattle.rules.specs.Severity.{onLot, onResubmitted, onOrder, onCorrective, step, figuresInRange}
+use Rattle.rules.specs.Severity.{Record, fresh, onLot, onResubmitted, onOrder, onCorrective, step, figuresInRange}
 use Rattle.rules.specs.History.{ours, eventIn, eventOf}
 use Rattle.rules.specs.Entries.{next, closeTotal, judgeTotal, plainPlan}
 use Rattle.rules.specs.Log.{log, logFrom, loggedAs, lineOf, splitAt, droppingEmptyLast, allDigits, valueFrom}
-use Rattle.rules.specs.Log.{isNumber, digitsFrom, printed}
+use Rattle.rules.specs.Log.{isNumber, digitsFrom, printed, linesOf}
+use Rattle.rules.specs.Terminal.{flag}
+use Rattle.rules.specs.LogRuns.{heldFrom}
+use Rattle.rules.proofs.Cases.{Case, _is_, AllAsSaid}
 
 pub input : List ℕ
 input =
@@ -28,3 +31,23 @@ unfolding input output log logFrom loggedAs lineOf splitAt droppingEmptyLast all
     printed next closeTotal judgeTotal plainPlan tablePlan landing boxAt tighterAc letterOf rowOf rowFrom step onLot
     onResubmitted onOrder onCorrective figuresInRange eventIn eventOf lib.Count.ones
 listing = refl
+
+-- "S (steady) and P (permission), each with 0 for no or 1 for yes": what is held after such lines, 1 for yes
+standing : Record → List ℕ
+standing r = flag (r .steady) ∷ flag (r .permission) ∷ []
+
+heldAt : List ℕ → List ℕ
+heldAt lines = standing (heldFrom ours 1 (fresh (ours .permission)) (linesOf lines))
+
+pub orderCases : List (Case (List ℕ))
+orderCases =
+    (heldAt (ascii "S 1") is (1 ∷ 0 ∷ []))
+    ∷ (heldAt (ascii "P 1") is (0 ∷ 1 ∷ []))
+    ∷ (heldAt (ascii "S 1\nP 1\nS 0") is (0 ∷ 1 ∷ []))
+    ∷ (heldAt (ascii "S 1\nP 1\nP 0") is (1 ∷ 0 ∷ []))
+    ∷ []
+
+pub orders-by-line : AllAsSaid orderCases
+unfolding orderCases heldAt standing heldFrom loggedAs lineOf splitAt droppingEmptyLast allDigits valueFrom isNumber
+    digitsFrom printed next step onOrder figuresInRange eventIn eventOf lib.Count.ones
+orders-by-line = refl

@@ -4,7 +4,7 @@ use Prim.Native.Nat.{ℕ, zero, suc, _+_, _-_, _/_, _%_, _≤_, _<_, min}
 use mathlib.Core.Path.{_≡_, refl, ap, sym, _∙_}
 use mathlib.Core.Logic.{_↔_}
 use mathlib.Core.Bool.{Bool, true, false}
-use mathlib.Core.List.{List, _++_}
+use mathlib.Core.List.{List, [], _∷_, _++_}
 use native.Mathlib.Omega.{arith}
 use borrow.Author.Tests.{leb-true, eqb-true}
 use lib.Dec.{leb, eqb}
@@ -133,6 +133,12 @@ given-row q book p h =
           length-replicate {A = ℕ} (7 - length (every from by m e)) 0,
           every-length from by m e,
         )
+
+-- A record's bytes in their order: severity, score, run, count, window, steady, permission.
+pub bytes-in-order : bytesOf
+    (record { severity = 1; score = 2; run = 3; count = 4; window = 5; steady = true; permission = false })
+    ≡ 1 ∷ 2 ∷ 3 ∷ 4 ∷ 5 ∷ 1 ∷ 0 ∷ []
+bytes-in-order = refl
 
 -- Seven zero bytes are the fresh record.
 pub zero-bytes-fresh : recordIn (replicate recordBytes 0) ≡ fresh (ours .permission)

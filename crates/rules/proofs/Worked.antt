@@ -113,6 +113,10 @@ staged items = verdictOf (judgeStages 10 fiveStages (numberBytes items))
 onTheLines : SequentialPlan
 onTheLines = record { hA = 1000; hR = 1800; g = 10000; nt = 50; atNt = 4 }
 
+-- "For a lower limit L use S − nL."
+fromBelow : List ℤ → ℕ → ℕ → List ℕ
+fromBelow xs l k = yesNo (acceptsReadings false (record { n = 3; k = k }) (pos l) xs) ∷ []
+
 planned : Plan → List ℕ
 planned p = p .letter ∷ p .n ∷ p .ac ∷ []
 
@@ -136,6 +140,11 @@ edgeCases =
     ∷ (verdictOf (judgeSequence onTheLines (numberBytes (replicate 10 0))) is (1 ∷ 10 ∷ []))
     ∷ (verdictOf (judgeSequence onTheLines (numberBytes (replicate 9 0))) is (7 ∷ []))
     ∷ (verdictOf (judgeSequence onTheLines (numberBytes (1 ∷ 1 ∷ []))) is (0 ∷ 2 ∷ []))
+    -- a lower limit, the same readings seen from below
+    ∷ (fromBelow (pos 10 ∷ pos 12 ∷ pos 14 ∷ []) 4 4000 is (1 ∷ []))
+    ∷ (fromBelow (pos 10 ∷ pos 12 ∷ pos 14 ∷ []) 5 3500 is (1 ∷ []))
+    ∷ (fromBelow (pos 10 ∷ pos 12 ∷ pos 14 ∷ []) 5 3501 is (0 ∷ []))
+    ∷ (fromBelow (pos 10 ∷ pos 12 ∷ pos 14 ∷ []) 13 1 is (0 ∷ []))
     -- the screen: no reading, half a reading, 50, 51; 1,000, 1,001
     ∷ (notShown (screen []) is (7 ∷ []))
     ∷ (notShown (screen (7 ∷ [])) is (7 ∷ []))
@@ -147,7 +156,7 @@ edgeCases =
 
 -- The cases that are not starred, and edges beside them.
 pub edges : AllAsSaid edgeCases
-unfolding edgeCases planned staged fiveStages numberBytes onTheLines verdictOf yesNo notShown tablePlan
+unfolding edgeCases planned staged fiveStages fromBelow acceptsReadings withinSpread margin spread numberBytes onTheLines verdictOf yesNo notShown tablePlan
     letterOf rowOf rowFrom landing boxAt judgeStages stagedFrom stagesFrom stageDecides takeItems judgeSequence
     sequentialFrom itemDecides numbersOf screen shownOf allInGauge inGauge signedOf sumZ squaresZ
 edges = refl
