@@ -37,6 +37,14 @@ pub record Writable (w : Work) (r : Record) (h out : List ℕ) : Type 0 where
 abbrev pub walkedFrom : Work → Record → List ℕ → Bool → List ℕ → ℕ → List ℕ
 walkedFrom w r h writes out i = cond writes (writtenFrom w r h out i) out
 
+-- what a walk has done before the byte at i, with the record that it then holds
+pub record Walking (w : Work) (start : Record) (h : List ℕ) (writes : Bool) (out buffer : List ℕ) (held : Record)
+    (i : ℕ) : Type 0 where
+  pub within : i ≤ length h
+  pub reached : afterFrom start (past w h i) ≡ given held
+  pub left : buffer ≡ walkedFrom w start h writes out i
+  pub room : length buffer ≡ length out
+
 -- A walk's whole promise: the answer, and what the buffer then holds.
 pub record Walks (w : Work) (start : Record) (h : List ℕ) (writes : Bool) (out last : List ℕ) (r : Listed) : Type 0
   where

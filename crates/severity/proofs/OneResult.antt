@@ -19,15 +19,14 @@ use Rattle.severity.specs.declared.Stepped.the-variants as stepped
 use Rattle.severity.specs.Paper.{workPaper, lotPaper, originPaper, eventPaper, recordPaper, steppedPaper, keptOf}
 use Rattle.severity.specs.Paper.{Closes}
 
-workBack : histories.Work → Work
+abbrev workBack : histories.Work → Work
 workBack w = record { permission = w .permission; resubmission = w .resubmission }
 
 -- of ours
 pub work-one : (a b : Work) → workPaper a ≡ workPaper b → a ≡ b
-unfolding workBack
 work-one a b e = ap workBack e
 
-recordBack : paper.Record → Record
+abbrev pub recordBack : paper.Record → Record
 recordBack r =
     record {
       severity = r .severity;
@@ -41,32 +40,29 @@ recordBack r =
 
 -- of fresh
 pub record-one : (a b : Record) → recordPaper a ≡ recordPaper b → a ≡ b
-unfolding recordBack
 record-one a b e = ap recordBack e
 
-lotBack : paper.Lot → Lot
+abbrev pub lotBack : paper.Lot → Lot
 lotBack paper.addThree = AddThree
 lotBack paper.addTwo = AddTwo
 lotBack paper.scoreZero = ScoreZero
 lotBack paper.notAccepted = NotAccepted
 
 lot-back : (a : Lot) → lotBack (lotPaper a) ≡ a
-unfolding lotBack
 lot-back AddThree = refl
 lot-back AddTwo = refl
 lot-back ScoreZero = refl
 lot-back NotAccepted = refl
 
-originBack : paper.Origin → Origin
+abbrev pub originBack : paper.Origin → Origin
 originBack paper.typed = Typed
 originBack paper.sampled = Sampled
 
 origin-back : (a : Origin) → originBack (originPaper a) ≡ a
-unfolding originBack
 origin-back Typed = refl
 origin-back Sampled = refl
 
-eventBack : paper.Event → Event
+abbrev pub eventBack : paper.Event → Event
 eventBack (paper.lot o l) = event.Lot (originBack o) (lotBack l)
 eventBack paper.resubmitted = event.Resubmitted
 eventBack (paper.steadyIs b) = event.Steady b
@@ -74,8 +70,7 @@ eventBack (paper.permissionIs b) = event.Permission b
 eventBack paper.corrective = event.Corrective
 eventBack paper.unknown = event.Unknown
 
-event-back : (a : Event) → eventBack (eventPaper a) ≡ a
-unfolding eventBack
+pub event-back : (a : Event) → eventBack (eventPaper a) ≡ a
 event-back (event.Lot o l) = rw (origin-back o, lot-back l)
 event-back event.Resubmitted = refl
 event-back (event.Steady b) = refl

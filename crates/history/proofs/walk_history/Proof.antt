@@ -1,13 +1,12 @@
 -- `history::walk_history` meets its contract. Assumes nothing.
-use Prim.Native.Nat.{_≤_, _-_}
-use mathlib.Core.Path.{_≡_, ap, _∙_}
+use Prim.Native.Nat.{_-_}
+use mathlib.Core.Path.{ap, _∙_}
 use mathlib.Core.Logic.{⊎-elim}
 use lib.ListN.{length}
 use borrow.Author.Needs.{needs}
-use Rattle.rules.specs.Refusals.{given}
-use Rattle.rules.proofs.Histories.{From, from-first, from-given}
+use Rattle.rules.proofs.Histories.{from-first, from-given}
 use Rattle.severity.specs.Paper.{workPaper, recordPaper}
-use Rattle.history.specs.Paper.{walkedFrom}
+use Rattle.history.specs.Paper.{Walking}
 use Rattle.history.proofs.Walk.{stepped-given, stepped-refused, walked-first, walked-bad, walked-more}
 use Rattle.history.proofs.Walk.{walked-on, walked-whole}
 use Rattle.history.proofs.walk_history.Statement.{statement}
@@ -15,10 +14,7 @@ use Rattle.history.proofs.walk_history.Tie as tie
 
 abbrev Inv-loop : tie.InvT-loop
 Inv-loop work history out₀ writes held₀ i₀ out held i =
-    (i ≤ length history)
-    × (From (workPaper work) history (recordPaper held₀) i ≡ given (recordPaper held))
-    × (out ≡ walkedFrom (workPaper work) (recordPaper held₀) history writes out₀ i)
-    × (length out ≡ length out₀)
+    Walking (workPaper work) (recordPaper held₀) history writes out₀ out (recordPaper held) i
 
 abbrev μ-loop : tie.MeasureT-loop
 μ-loop work history out₀ writes held₀ i₀ out held i = length history - i
@@ -38,10 +34,20 @@ loop-again c =
     let b = c .before .before in
     let q = stepped-given (b .answer .given .1) (b .before .before .step-byte .ensures) in
     let inv = b .before .before .before .before .before .loop .inv in
-    let a = from-given _ _ _ _ _ _ (inv .1) q in
+    let a = from-given _ _ _ _ _ _ (inv .reached) q in
     ⊎-elim
-    (λ w. (search needs, a, w .1 ∙ walked-more _ _ _ _ _ _ _ (inv .2) (w .0 .taken) a, search (needs, ap length (w .1))))
-    (λ w. (search needs, a, w .1 ∙ walked-on _ _ _ _ _ _ _ (inv .2) (w .0 .left), search (needs, ap length (w .1))))
+    (λ w. record {
+      within = search needs;
+      reached = a;
+      left = w .1 ∙ walked-more _ _ _ _ _ _ _ (inv .left) (w .0 .taken) a;
+      room = search (needs, ap length (w .1));
+    })
+    (λ w. record {
+      within = search needs;
+      reached = a;
+      left = w .1 ∙ walked-on _ _ _ _ _ _ _ (inv .left) (w .0 .left);
+      room = search (needs, ap length (w .1));
+    })
     (c .if1 .came)
 
 pub walk-history-spec : {M : Type 1} → statement M

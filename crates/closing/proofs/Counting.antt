@@ -1,0 +1,50 @@
+-- How a closed lot counts, by the tests that the code makes: one law for each return.
+-- Assumes nothing.
+use Prim.Native.Nat.{ℕ, _≤_, _<_}
+use mathlib.Core.Path.{_≡_, ap}
+use mathlib.Core.Bool.{Bool, true, false, _&&_}
+use lib.Dec.{ltb}
+use borrow.Author.Tests.{le-leb, lt-leb, eq-eqb, ne-eqb}
+use Rattle.rules.specs.Codes.{countsItems}
+use Rattle.rules.specs.Severity.{Lot, addThree, addTwo, scoreZero, notAccepted, sampled, lot, counted, singlePoints}
+use Rattle.rules.specs.Severity.{stagedPoints}
+use Rattle.rules.specs.Entries.{Offered, eventFor}
+
+module _ (s : ℕ) (a : Bool) (p : Lot) where
+  pub counts-points : a ≡ true → s ≡ 0 → p ≡ counted s a p
+  counts-points e f = rw (e, eq-eqb s 0 f)
+
+  pub counts-zero : a ≡ true → (s ≡ 0 → ⊥) → scoreZero ≡ counted s a p
+  counts-zero e f = rw (e, ne-eqb s 0 f)
+
+  pub counts-bad : a ≡ false → notAccepted ≡ counted s a p
+  counts-bad e = rw e
+
+module _ (ac tighter total : ℕ) where
+  pub single-three : 2 ≤ ac → total ≤ tighter → addThree ≡ singlePoints ac tighter total
+  single-three h k = rw (le-leb 2 ac h, le-leb total tighter k)
+
+  pub single-zero : 2 ≤ ac → tighter < total → scoreZero ≡ singlePoints ac tighter total
+  single-zero h k = rw (le-leb 2 ac h, lt-leb total tighter k)
+
+  pub single-two : ac < 2 → addTwo ≡ singlePoints ac tighter total
+  single-two h = rw (lt-leb 2 ac h)
+
+module _ (stage stages : ℕ) where
+  pub staged-three : stage ≡ 1 → addThree ≡ stagedPoints stage stages
+  staged-three e = rw (eq-eqb stage 1 e)
+
+  pub staged-zero : (stage ≡ 1 → ⊥) → scoreZero ≡ stagedPoints stage stages
+  staged-zero e = rw (ne-eqb stage 1 e)
+
+-- an original lot
+pub original : (o : Offered) (l m : Lot) → o .again ≡ false → l ≡ m → lot sampled l ≡ eventFor o m
+original o l m e q = rw e (ap (lot sampled) q)
+
+-- "total over n for columns 0 to 15"
+module _ (column n total : ℕ) where
+  pub items-counted : column ≤ 15 → ltb n total ≡ (countsItems column && ltb n total)
+  items-counted h = rw (le-leb column 15 h)
+
+  pub items-not-counted : 15 < column → false ≡ (countsItems column && ltb n total)
+  items-not-counted h = rw (lt-leb column 15 h)

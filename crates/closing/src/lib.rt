@@ -1,0 +1,261 @@
+// How a lot closes: how its verdict counts, the event that it stands for and the record after; and a lot that is closed
+// by its total, at a bench without a book.
+ghost use mathlib.Core.Path.{_≡_};
+ghost use mathlib.Core.Bool.{_&&_};
+ghost use lib.Dec.{ltb};
+ghost use Rattle.rules.specs.Refusals.{refused, andThen};
+ghost use Rattle.rules.specs.Codes.{countsItems};
+ghost use Rattle.rules.specs.Severity.{counted, singlePoints, stagedPoints};
+ghost use Rattle.rules.specs.Entries.{askedOn, eventFor, singleCounts, onRecord, closedWith, totalOn, judgeTotal};
+ghost use Rattle.rules.specs.Entries.{closeTotal};
+ghost use Rattle.plans.specs.Paper.{askedPaper, planPaper, verdictPaper, beside, zeroPlan};
+ghost use Rattle.severity.specs.Paper.{lotPaper, eventPaper, recordPaper};
+ghost use Rattle.closing.specs.Paper.{offeredPaper, judgedOn, stagedLot, entered, unplanned, closedOn};
+ghost use Rattle.closing.specs.Paper.{closedPaper, judgedBeside, closedBeside, planJudged, planClosed};
+use plans::Asked;
+use plans::Outcome;
+use plans::SinglePlan;
+use plans::Verdict;
+use plans::VerdictAnswer;
+use severity::Event;
+use severity::Lot;
+use severity::Origin;
+use severity::Record;
+use severity::Stepped;
+
+// The severity that keeps a score.
+const NORMAL: u8 = 0;
+
+// The refusals of this crate.
+const UNKNOWN_FORM: u8 = 1;
+
+const ILLEGAL_ITEM: u8 = 8;
+
+// The last column whose items are 0 or 1.
+const LAST_OF_ITEMS: u32 = 15;
+
+// A lot that is offered to be closed.
+pub struct Offered {
+    pub again: bool,
+    pub size: u32,
+    pub level: u32,
+    pub column: u32,
+}
+
+// How a closed lot was judged, the event that it stands for, and the record after.
+pub struct Closed {
+    pub verdict: Verdict,
+    pub event: Event,
+    pub record_after: Record,
+}
+
+pub enum ClosedAnswer {
+    Refused(u8, usize),
+    Given(Closed),
+}
+
+// The verdict on a single plan, with the plan; beside a refusal its places are 0.
+pub struct SingleJudged {
+    pub answer: VerdictAnswer,
+    pub plan: SinglePlan,
+}
+
+// A lot closed on a single plan, likewise.
+pub struct SingleClosed {
+    pub answer: ClosedAnswer,
+    pub plan: SinglePlan,
+}
+
+// The score of a lot: only normal keeps one.
+fn counts(severity: u8, accepted: bool, points: Lot) -> Lot
+    ensures { λ r. ⌜ lotPaper r ≡ counted severity accepted (lotPaper points) ⌝ }
+{
+    if accepted {
+        if severity == NORMAL {
+            return points;
+        }
+        return Lot::ScoreZero;
+    }
+    Lot::NotAccepted
+}
+
+// `tighter` is the Ac one column tighter at the letter that gives the size.
+fn single_points(ac: u16, tighter: u16, total: u64) -> Lot
+    ensures { λ r. ⌜ lotPaper r ≡ singlePoints ac tighter total ⌝ }
+{
+    if 2 <= ac {
+        if total <= tighter as u64 {
+            return Lot::AddThree;
+        }
+        return Lot::ScoreZero;
+    }
+    Lot::AddTwo
+}
+
+// By the stage that decided and how many there are.
+fn staged_points(stage: u8, stages: u8) -> Lot
+    ensures { λ r. ⌜ lotPaper r ≡ stagedPoints stage stages ⌝ }
+{
+    if stage == 1 {
+        return Lot::AddThree;
+    }
+    Lot::ScoreZero
+}
+
+// "Resubmitted lots are judged at the present severity and change nothing."
+fn event_for(old: Record, lot: Offered, accepted: bool, points: Lot) -> Event
+    ensures { λ r. ⌜ eventPaper r ≡ eventFor (offeredPaper lot) (counted (old .severity) accepted (lotPaper points)) ⌝ }
+{
+    if lot.again {
+        return Event::Resubmitted;
+    }
+    Event::Lot(Origin::Sampled, counts(old.severity, accepted, points))
+}
+
+// The event that a lot judged on a single plan stands for.
+pub fn single_event(old: Record, lot: Offered, plan: SinglePlan, verdict: Verdict) -> Event
+    ensures { λ r. ⌜ eventPaper r ≡ eventFor (offeredPaper lot) (singleCounts (recordPaper old) (offeredPaper lot)
+        (judgedOn (planPaper plan) (verdictPaper verdict))) ⌝ }
+{
+    let tighter = plans::tighter_ac(plan.letter, lot.column);
+    let points = single_points(plan.ac, tighter, verdict.total);
+    event_for(old, lot, verdict.accepted, points)
+}
+
+// .. and one judged on a staged plan.
+pub fn staged_event(old: Record, lot: Offered, verdict: Verdict) -> Event
+    ensures { λ r. ⌜ eventPaper r
+        ≡ eventFor (offeredPaper lot) (stagedLot (recordPaper old) (verdictPaper verdict)) ⌝ }
+{
+    let points = staged_points(verdict.stage, verdict.stages);
+    event_for(old, lot, verdict.accepted, points)
+}
+
+// A lot that was judged enters its record as an event.
+pub fn enter(old: Record, event: Event, verdict: Verdict) -> ClosedAnswer
+    ensures { λ r. ⌜ closedPaper r ≡ onRecord (recordPaper old)
+        (entered (recordPaper old) (eventPaper event) (unplanned (verdictPaper verdict))) ⌝ }
+{
+    match severity::update(old, event) {
+        Stepped::Refused(number, place) => ClosedAnswer::Refused(number, place),
+        Stepped::Given(new) => ClosedAnswer::Given(Closed {
+            verdict,
+            event,
+            record_after: new,
+        }),
+    }
+}
+
+pub fn unclosed(number: u8, place: usize) -> SingleClosed
+    ensures { λ r. ⌜ closedBeside r ≡ beside zeroPlan planClosed (refused number place) ⌝ }
+{
+    SingleClosed {
+        answer: ClosedAnswer::Refused(number, place),
+        plan: plans::no_plan(),
+    }
+}
+
+fn with_plan(plan: SinglePlan, answer: ClosedAnswer) -> SingleClosed
+    ensures { λ r. ⌜ closedBeside r ≡ beside zeroPlan planClosed (closedOn answer (planPaper plan)) ⌝ }
+{
+    match answer {
+        ClosedAnswer::Refused(number, place) => unclosed(number, place),
+        ClosedAnswer::Given(closed) => SingleClosed {
+            answer: ClosedAnswer::Given(closed),
+            plan,
+        },
+    }
+}
+
+// A lot that was judged on a single plan is taken into its record.
+pub fn take_single(old: Record, lot: Offered, judged: SingleJudged) -> SingleClosed
+    ensures { λ r. ⌜ closedBeside r ≡ beside zeroPlan planClosed (andThen (judgedBeside judged .answer)
+        (λ j. onRecord (recordPaper old) (closedWith (recordPaper old) (offeredPaper lot)
+        (singleCounts (recordPaper old) (offeredPaper lot)) j))) ⌝ }
+{
+    let answer = judged.answer;
+    let plan = judged.plan;
+    match answer {
+        VerdictAnswer::Refused(number, place) => unclosed(number, place),
+        VerdictAnswer::Given(verdict) => {
+            let event = single_event(old, lot, plan, verdict);
+            with_plan(plan, enter(old, event, verdict))
+        }
+    }
+}
+
+// The lot as it is asked about, at the present severity.
+pub fn asked_on(old: Record, lot: Offered) -> Asked
+    ensures { λ r. ⌜ askedPaper r ≡ askedOn (recordPaper old) (offeredPaper lot) ⌝ }
+{
+    Asked {
+        severity: old.severity as u32,
+        size: lot.size,
+        level: lot.level,
+        column: lot.column,
+    }
+}
+
+pub fn unjudged(number: u8, place: usize) -> SingleJudged
+    ensures { λ r. ⌜ judgedBeside r ≡ beside zeroPlan planJudged (refused number place) ⌝ }
+{
+    SingleJudged {
+        answer: VerdictAnswer::Refused(number, place),
+        plan: plans::no_plan(),
+    }
+}
+
+// 8: "total over n for columns 0 to 15".
+fn exceeds_sample(column: u32, n: u16, total: u32) -> bool
+    ensures { λ r. ⌜ r ≡ (countsItems column && ltb n total) ⌝ }
+{
+    if column <= LAST_OF_ITEMS {
+        return (n as u32) < total;
+    }
+    false
+}
+
+// A total on a single plan, in place of a sample.
+fn judge_on_plan(column: u32, total: u32, plan: SinglePlan) -> SingleJudged
+    ensures { λ r. ⌜ judgedBeside r ≡ beside zeroPlan planJudged (totalOn column total (planPaper plan)) ⌝ }
+{
+    if exceeds_sample(column, plan.n, total) {
+        return unjudged(ILLEGAL_ITEM, 0);
+    }
+    let verdict = Verdict {
+        accepted: total <= plan.ac as u32,
+        used: plan.n as u32,
+        total: total as u64,
+        stage: 1,
+        stages: 1,
+    };
+    SingleJudged {
+        answer: VerdictAnswer::Given(verdict),
+        plan,
+    }
+}
+
+// A lot judged by its total, at a bench without a book.
+fn judge_total(lot: Asked, total: u32) -> SingleJudged
+    ensures { λ r. ⌜ judgedBeside r ≡ beside zeroPlan planJudged (judgeTotal (askedPaper lot) total) ⌝ }
+{
+    let planned = plans::table_plan(lot);
+    let answer = planned.answer;
+    let plan = planned.plan;
+    match answer {
+        Outcome::Refused(number, place) => unjudged(number, place),
+        Outcome::Given => judge_on_plan(lot.column, total, plan),
+    }
+}
+
+// A single lot closed by its total, at a bench without a book.
+pub fn close_total(old: Record, lot: Offered, total: u32) -> SingleClosed
+    ensures { λ r. ⌜ closedBeside r
+        ≡ beside zeroPlan planClosed (closeTotal (recordPaper old) (offeredPaper lot) total) ⌝ }
+{
+    if severity::in_range(old) {
+        let asked = asked_on(old, lot);
+        return take_single(old, lot, judge_total(asked, total));
+    }
+    unclosed(UNKNOWN_FORM, 0)
+}
