@@ -1,5 +1,3 @@
-pub mod Found
-pub mod Held
+pub mod Loops
 pub mod OneResult
-pub mod Ranges
-pub mod Seven
+pub mod PlaceLaws

@@ -22,6 +22,11 @@ pub key-three : (n : ℕ) → (n ≡ 0 → ⊥) → 3 ≡ kindAt n .key
 key-three =
     by-kind (λ n k. (n ≡ 0 → ⊥) → 3 ≡ k .key) (λ h. absurd (h refl)) (λ h. refl) (λ h. refl) (λ n l h. refl)
 
+-- an entry is longer than its key
+pub entry-deep : (n x : ℕ) → kindAt n .key < kindAt n .size x
+entry-deep n x =
+    by-kind (λ n k. k .key < k .size x) (omega arith) (omega arith) (omega arith) (λ n l. omega arith) n
+
 -- only staged and sequential entries have rules
 pub no-rule : (before : List ℕ) (x n : ℕ) → (n ≡ 1 → ⊥) → (n ≡ 2 → ⊥) → true ≡ kindAt n .rule before x
 no-rule before x =

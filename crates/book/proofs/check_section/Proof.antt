@@ -1,122 +1,49 @@
 -- `book::check_section` meets its contract.
 -- Assumes nothing.
-use mathlib.Core.Path.{_≡_, refl, sym, ap, _∙_}
-use borrow.Author.Tests.{ne-eqb}
+use Prim.Native.Nat.{_-_}
+use mathlib.Core.Path.{_≡_, sym, ap, _∙_}
 use native.Mathlib.Omega.{arith}
-use borrow.Author.Needs.{needs}
 use denote.Ref.{now}
-use Prim.Native.Nat.{ℕ, _+_, _-_, _≤_}
-use mathlib.Core.List.{List, []}
-use lib.ListN.{getD, drop, length, length-drop}
+use lib.ListN.{drop}
 use Rattle.rules.specs.Numbers.{numbersOf}
-use Rattle.rules.specs.Book.{kindAt, keyFor, shift, section, seek, seekIn}
-use Rattle.rules.specs.Book as paper
+use Rattle.rules.specs.Book.{kindAt}
 use Rattle.rules.proofs.Numbers.{numbers-low}
-use Rattle.rules.proofs.SectionKinds.{entry-deep}
-use Rattle.rules.proofs.Walks.{entry-ends, place-broken, place-entry}
-use Rattle.rules.proofs.Steps.{section-short, section-is, entries-done, entries-broken, entries-short, entries-next}
-use Rattle.book.specs.Paper.{walkOf, keyAt, foundAt, orElse}
-use Rattle.book.proofs.Found.{seen-next, seen-done, read-ends, read-broken, read-short}
+use Rattle.rules.proofs.Walks.{place-entry}
+use Rattle.rules.proofs.Steps.{section-short}
+use Rattle.entry.specs.Paper.{walkPaper, keyPaper}
+use Rattle.entry.proofs.AnyKind.{entry-deep}
+use Rattle.book.specs.Paper.{InSection}
+use Rattle.book.proofs.Loops.{ends-near, broken-near, read-short, section-opens, section-next, section-broken}
+use Rattle.book.proofs.Loops.{section-shorts, section-done}
+use borrow.Author.Needs.{needs}
 use Rattle.book.proofs.check_section.Statement.{statement}
 use Rattle.book.proofs.check_section.Tie as tie
 
-opened : (k : paper.Kind) (key ws : List ℕ) → seekIn k key ws ≡ seek k key (getD ws 0 0) (drop 1 ws)
-unfolding seekIn
-opened k key ws = refl
-
 abbrev Inv-loop : tie.InvT-loop
-Inv-loop kind part severity letter column entries prev₀ at₀ seen₀ i₀ prev at seen i =
-    (i ≤ entries)
-    × ((1 ≤ at)
-    × ((prev ≤ at)
-    × ((seen ≤ at)
-    × ((at ≤ length (numbersOf part))
-    × ((section (kindAt kind) (numbersOf part)
-    ≡ shift at
-    (paper.entries (kindAt kind) (entries - i) (keyAt (kindAt kind) prev (numbersOf part)) (drop at (numbersOf part))))
-    × (seekIn (kindAt kind) (keyFor (kindAt kind) severity letter column) (numbersOf part)
-    ≡ orElse (foundAt (kindAt kind) seen (numbersOf part))
-    (seek (kindAt kind) (keyFor (kindAt kind) severity letter column) (entries - i) (drop at (numbersOf part)))))))))
+Inv-loop kind key part entries prev₀ at₀ seen₀ i₀ prev at seen i =
+    InSection (kindAt kind) (keyPaper (kindAt kind) key) (numbersOf part) entries prev at seen i
 
 abbrev μ-loop : tie.MeasureT-loop
-μ-loop kind part severity letter column entries prev₀ at₀ seen₀ i₀ prev at seen i = entries - i
-
-count-requires : tie.Need-count-requires Inv-loop μ-loop
-count-requires c κs = search needs
+μ-loop kind key part entries prev₀ at₀ seen₀ i₀ prev at seen i = entries - i
 
 returns : tie.Need-returns Inv-loop μ-loop
-returns c =
-    let a = c .before .before .before .args in
-    let k = kindAt (a .kind) in
-    let ws = numbersOf (now (a .part)) in
-    read-short (section k ws) k ws (seekIn k (keyFor k (a .severity) (a .letter) (a .column)) ws)
-    (sym (section-short k ws (omega arith)))
-
-number-requires : tie.Need-number-requires Inv-loop μ-loop
-number-requires c κs = search needs
+returns c = read-short (sym (section-short _ _ (omega arith)))
 
 loop-holds : tie.Need-loop-holds Inv-loop μ-loop
-loop-holds c =
-    let a = c .before .before .before .before .args in
-    let k = kindAt (a .kind) in
-    let key = keyFor k (a .severity) (a .letter) (a .column) in
-    let ws = numbersOf (now (a .part)) in
-    let n : c .number .result - 0 ≡ getD ws 0 0 = omega arith in (
-      search needs,
-      (
-        search needs,
-        (
-          search needs,
-          (
-            search needs,
-            (
-              omega arith,
-              (
-                section-is k ws (omega arith) ∙ ap (λ (x : ℕ). shift 1 (paper.entries k x [] (drop 1 ws))) (sym n),
-                opened k key ws ∙ ap (λ (x : ℕ). seek k key x (drop 1 ws)) (sym n),
-              ),
-            ),
-          ),
-        ),
-      ),
-    )
+loop-holds c = section-opens (omega arith) (c .number .ensures .0)
 
 entry-at-requires : tie.Need-entry-at-requires Inv-loop μ-loop
-entry-at-requires c κs = omega arith
-
-enum-known-size : tie.Need-enum-known-size Inv-loop μ-loop
-enum-known-size c = search needs
+entry-at-requires c κs = let s = c .before .loop .inv in (s .after, s .within)
 
 first-under-requires : tie.Need-first-under-requires Inv-loop μ-loop
-first-under-requires c κs =
-    let s = c .before .before .before .before .before .before .before .before .before .before in
-    let a = s .args in
-    let l = c .before .before .before .before .before .loop in
-    let k = kindAt (a .kind) in
-    let ws = numbersOf (now (a .part)) in
-    let b = keyAt k (l .prev) ws in
-    let q : paper.ends (c .before .size .given .0 .0) ≡ paper.entry k b (drop (l .at) ws) =
-    sym (ap walkOf (c .before .size .given .1)) ∙ c .before .before .before .entry-at .ensures in
-    let e = entry-ends k b (drop (l .at) ws) (c .before .size .given .0 .0) (sym q) in
-    let d = entry-deep (a .kind) (s .pre) (getD (drop (l .at) ws) (k .key) 0) in
-    (omega arith, (omega arith, (omega arith, omega (arith, e, d, length-drop (l .at) ws))))
+first-under-requires c κs = c .before .before .before .before .before .loop .inv .within
 
 add-at : tie.Need-add-at Inv-loop μ-loop
 add-at c =
-    let a = c .before .before .before .before .before .before .before .before .before .before .before .args in
+    let s = now (c .before .before .before .before .before .before .before .before .before .before .before .args .part) in
     let l = c .before .before .before .before .before .before .loop in
-    let k = kindAt (a .kind) in
-    let ws = numbersOf (now (a .part)) in
-    let b = keyAt k (l .prev) ws in
-    let q : paper.ends (c .before .before .size .given .0 .0) ≡ paper.entry k b (drop (l .at) ws) =
-    sym (ap walkOf (c .before .before .size .given .1)) ∙ c .before .before .before .before .entry-at .ensures in
-    omega (
-      arith,
-      entry-ends k b (drop (l .at) ws) (c .before .before .size .given .0 .0) (sym q),
-      length-drop (l .at)
-          ws,
-      numbers-low (now (a .part)),
-    )
+    let q = sym (ap walkPaper (c .before .before .size .given .1)) ∙ c .before .before .before .before .entry-at .ensures in
+    omega (arith, ends-near (l .at) (numbersOf s) (place-entry _ _ (drop (l .at) (numbersOf s))) (l .inv .within) q, numbers-low s)
 
 add-i : tie.Need-add-i Inv-loop μ-loop
 add-i c = omega arith
@@ -127,97 +54,29 @@ loop-less c = omega arith
 loop-again : tie.Need-loop-again Inv-loop μ-loop
 loop-again c =
     let a = c .before .before .before .before .before .before .before .before .before .before .before .args in
-    let l = c .before .before .before .before .before .before .loop in
-    let n = c .before .before .before .before .before .before .before .number .result in
-    let k = kindAt (a .kind) in
-    let key = keyFor k (a .severity) (a .letter) (a .column) in
-    let ws = numbersOf (now (a .part)) in
-    let b = keyAt k (l .prev) ws in
-    let size = c .before .before .size .given .0 .0 in
-    let q : paper.ends size ≡ paper.entry k b (drop (l .at) ws) =
-    sym (ap walkOf (c .before .before .size .given .1)) ∙ c .before .before .before .before .entry-at .ensures in
-    let z : keyAt k (l .at) ws ≡ paper.keyOf k (drop (l .at) ws) = rw (ne-eqb (l .at) 0 (omega arith)) in (
-      omega arith,
-      (
-        omega arith,
-        (
-          omega arith,
-          (
-            omega (arith, c .first-under .ensures .0),
-            (
-              omega (arith, entry-ends k b (drop (l .at) ws) size (sym q), length-drop (l .at) ws),
-              (
-                l .inv .1 .1 .1 .1 .1 .0 ∙ entries-next k n (l .i) (l .at) b ws size (omega arith) q
-                    ∙ ap (λ (x : List ℕ). shift (l .at + size)
-                    (paper.entries k (n - (l .i + 1)) x (drop (l .at + size) ws))) (sym z),
-                seen-next k key n (l .i) (l .at) ws (seekIn k key ws) b size (l .seen) (c .first-under .result)
-                    (omega arith) q
-                    (l .inv .1 .1 .1 .1 .1 .1) (c .first-under .ensures .1),
-              ),
-            ),
-          ),
-        ),
-      ),
-    )
+    let q = sym (ap walkPaper (c .before .before .size .given .1)) ∙ c .before .before .before .before .entry-at .ensures in
+    section-next (c .before .before .before .before .before .before .loop .inv) (entry-deep (a .kind)) (omega arith) q
+    (c .first-under .ensures)
 
-enum-known-p : tie.Need-enum-known-p Inv-loop μ-loop
-enum-known-p c = search needs
-
-add-t17 : tie.Need-add-t17 Inv-loop μ-loop
-add-t17 c =
-    let a = c .before .before .before .before .before .before .before .before .before .before .args in
+add-t15 : tie.Need-add-t15 Inv-loop μ-loop
+add-t15 c =
+    let s = now (c .before .before .before .before .before .before .before .before .before .before .args .part) in
     let l = c .before .before .before .before .before .loop in
-    let k = kindAt (a .kind) in
-    let ws = numbersOf (now (a .part)) in
-    let b = keyAt k (l .prev) ws in
-    let q : paper.broken (c .before .p .given .0 .0) ≡ paper.entry k b (drop (l .at) ws) =
-    sym (ap walkOf (c .before .p .given .1)) ∙ c .before .before .before .entry-at .ensures in
-    let m : c .before .p .given .0 .0 ≤ length (drop (l .at) ws) =
-    rw (place-broken _ _ q) (place-entry k b (drop (l .at) ws)) in
-    omega (arith, m, length-drop (l .at) ws, numbers-low (now (a .part)))
+    let q = sym (ap walkPaper (c .before .p .given .1)) ∙ c .before .before .before .entry-at .ensures in
+    omega (arith, broken-near (l .at) (numbersOf s) (place-entry _ _ (drop (l .at) (numbersOf s))) (l .inv .within) q, numbers-low s)
 
 returns-2 : tie.Need-returns-2 Inv-loop μ-loop
 returns-2 c =
-    let a = c .before .before .before .before .before .before .before .before .before .before .args in
-    let l = c .before .before .before .before .before .loop in
-    let n = c .before .before .before .before .before .before .number .result in
-    let k = kindAt (a .kind) in
-    let ws = numbersOf (now (a .part)) in
-    let b = keyAt k (l .prev) ws in
-    let p = c .before .p .given .0 .0 in
-    let q : paper.broken p ≡ paper.entry k b (drop (l .at) ws) =
-    sym (ap walkOf (c .before .p .given .1)) ∙ c .before .before .before .entry-at .ensures in
-    read-broken (section k ws) k ws (seekIn k (keyFor k (a .severity) (a .letter) (a .column)) ws) (l .at + p)
-    (sym (l .inv .1 .1 .1 .1 .1 .0 ∙ entries-broken k n (l .i) (l .at) b ws p (omega arith) q))
-
-enum-told : tie.Need-enum-told Inv-loop μ-loop
-enum-told c = search needs
+    section-broken (c .before .before .before .before .before .loop .inv) (omega arith)
+    (sym (ap walkPaper (c .before .p .given .1)) ∙ c .before .before .before .entry-at .ensures)
 
 returns-3 : tie.Need-returns-3 Inv-loop μ-loop
 returns-3 c =
-    let a = c .before .before .before .before .before .before .before .before .before .args in
-    let l = c .before .before .before .before .loop in
-    let n = c .before .before .before .before .before .number .result in
-    let k = kindAt (a .kind) in
-    let ws = numbersOf (now (a .part)) in
-    let b = keyAt k (l .prev) ws in
-    let q : paper.short ≡ paper.entry k b (drop (l .at) ws) =
-    sym (ap walkOf (c .enum-told .given .1)) ∙ c .before .before .entry-at .ensures in
-    read-short (section k ws) k ws (seekIn k (keyFor k (a .severity) (a .letter) (a .column)) ws)
-    (sym (l .inv .1 .1 .1 .1 .1 .0 ∙ entries-short k n (l .i) (l .at) b ws (omega arith) q))
+    section-shorts (c .before .before .before .before .loop .inv) (omega arith)
+    (sym (ap walkPaper (c .enum-told .given .1)) ∙ c .before .before .entry-at .ensures)
 
 returns-4 : tie.Need-returns-4 Inv-loop μ-loop
-returns-4 c =
-    let a = c .before .before .before .before .before .before .args in
-    let l = c .before .loop in
-    let n = c .before .before .number .result in
-    let k = kindAt (a .kind) in
-    let key = keyFor k (a .severity) (a .letter) (a .column) in
-    let ws = numbersOf (now (a .part)) in
-    read-ends (section k ws) k ws (seekIn k key ws) (l .at) (l .seen)
-    (sym (l .inv .1 .1 .1 .1 .1 .0 ∙ entries-done k n (l .i) (l .at) (keyAt k (l .prev) ws) ws (omega arith)))
-    (seen-done k key n (l .i) (l .at) ws (seekIn k key ws) (l .seen) (omega arith) (l .inv .1 .1 .1 .1 .1 .1))
-    (omega arith)
+returns-4 c = section-done (c .before .loop .inv) (omega arith)
 
 pub check-section-spec : {M : Type 1} → statement M
 check-section-spec =
@@ -225,20 +84,20 @@ check-section-spec =
     (tie.spec
     Inv-loop
     μ-loop
-    count-requires
+    (λ c κs. search needs)
     returns
-    number-requires
+    (λ c κs. search needs)
     loop-holds
     entry-at-requires
-    enum-known-size
+    (λ c. search needs)
     first-under-requires
     add-at
     add-i
     loop-less
     loop-again
-    enum-known-p
-    add-t17
+    (λ c. search needs)
+    add-t15
     returns-2
-    enum-told
+    (λ c. search needs)
     returns-3
     returns-4)

@@ -1,203 +1,103 @@
 -- `book::check_sections` meets its contract.
 -- Assumes nothing.
-use mathlib.Core.Path.{_≡_, sym, _∙_}
-use native.Mathlib.Omega.{arith}
-use borrow.Author.Needs.{needs}
-use mathlib.Core.Path.{subst}
-use denote.Ref.{now}
-use Prim.Native.Nat.{ℕ, _+_, _*_, _-_, _≤_}
+use Prim.Native.Nat.{ℕ, _+_, _-_, _≤_, _<_}
+use mathlib.Core.Path.{_≡_, subst}
 use mathlib.Core.List.{List}
-use lib.ListN.{drop, take, length, length-drop}
+use native.Mathlib.Omega.{arith}
+use denote.Ref.{now}
+use lib.ListN.{length, drop, length-drop}
 use Rattle.rules.specs.Numbers.{numbersOf}
-use Rattle.rules.specs.Book.{kinds, kindAt, variables, keyFor, shift, section, sections, seekIn, lookUp}
+use Rattle.rules.specs.Book.{kinds, kindAt}
 use Rattle.rules.proofs.Numbers.{numbers-low, numbers-part}
-use Rattle.rules.proofs.Walks.{shift-zero, place-ends, place-broken, place-section}
-use Rattle.rules.proofs.Steps.{sections-done, sections-broken, sections-short, sections-next}
-use Rattle.book.specs.Paper.{SectionRead}
-use Rattle.book.specs.declared.Stretch.{Stretch}
-use Rattle.book.proofs.Found.{Held, held-start, held-near, held-next, read-ends, read-broken, read-short}
-use Rattle.book.proofs.Found.{ends-of, broken-of, short-of}
+use Rattle.rules.proofs.Walks.{place-ends, place-broken, place-section}
+use Rattle.book.specs.Paper.{SectionRead, InBook}
+use Rattle.book.specs.declared.Stretch.the-variants.{Ends}
+use Rattle.book.proofs.Loops.{in-near, ends-of, broken-of, short-of, book-opens, book-next, book-broken}
+use Rattle.book.proofs.Loops.{book-shorts, book-done}
+use borrow.Author.Needs.{needs}
 use Rattle.book.proofs.check_sections.Statement.{statement}
 use Rattle.book.proofs.check_sections.Tie as tie
 
--- what the checker of a section promises of a part of the book, said of the book's numbers from there on
-from-part : (s : List ℕ) (at kind severity letter column : ℕ) (r : Stretch)
-    → SectionRead kind severity letter column (numbersOf (take (length s - 2 * at) (drop (2 * at) s))) r
-    → SectionRead kind severity letter column (drop at (numbersOf s)) r
-from-part s at kind severity letter column r t =
-    subst (λ (ws : List ℕ). SectionRead kind severity letter column ws r) (numbers-part s at) t
-
 abbrev Inv-loop : tie.InvT-loop
-Inv-loop book asked severity letter column at₀ held₀ kind₀ at held kind =
-    (kind ≤ 4)
-    × ((at ≤ length (numbersOf book))
-    × ((held ≤ length (numbersOf book))
-    × ((sections kinds (numbersOf book) ≡ shift at (sections (drop kind kinds) (drop at (numbersOf book))))
-    × Held asked (lookUp asked severity letter column (numbersOf book)) (numbersOf book) kind at held)))
+Inv-loop asked key book at₀ held₀ kind₀ at held kind = InBook asked key (numbersOf book) kind at held
 
 abbrev μ-loop : tie.MeasureT-loop
-μ-loop book asked severity letter column at₀ held₀ kind₀ at held kind = 4 - kind
+μ-loop asked key book at₀ held₀ kind₀ at held kind = length kinds - kind
 
-loop-holds : tie.Need-loop-holds Inv-loop μ-loop
-loop-holds c =
-    let a = c .before .args in
-    let ws = numbersOf (now (a .book)) in
-    let look = lookUp (a .asked) (a .severity) (a .letter) (a .column) ws in
-    (search needs, (search needs, (search needs, (sym (shift-zero _), held-start (a .asked) look ws))))
+-- what the checker of a section promises of a part of the book, said of the book's numbers from there on
+module _ (d : tie.After-check-section Inv-loop μ-loop) where
+  abbrev at : ℕ
+  at = d .before .before .before .loop .at
+
+  abbrev ws : List ℕ
+  ws = numbersOf (now (d .before .before .before .before .before .args .book))
+
+  abbrev kind : ℕ
+  kind = d .before .before .before .loop .kind
+
+  read : SectionRead kind (d .before .before .before .before .before .args .key) (drop at ws) (d .check-section .result)
+  read =
+      let a = d .before .before .before .before .before .args in
+      subst (λ (e : List ℕ). SectionRead kind (a .key) e (d .check-section .result)) (numbers-part (now (a .book)) at)
+      (d .check-section .ensures)
+
+  bounded : (p : ℕ) → p ≤ length (drop at ws) → at + p < 10000000000000000000
+  bounded p h =
+      let a = d .before .before .before .before .before .args in
+      omega (arith, length-drop at ws, d .before .before .before .loop .inv .within, numbers-low (now (a .book)))
+
+  -- an end and a place that it was seen at
+  ends-bounded : (p seen : ℕ) → d .check-section .result ≡ Ends p seen
+      → (at + p < 10000000000000000000) × (at + seen < 10000000000000000000)
+  ends-bounded p seen e =
+      let q = ends-of read e in
+      let key = d .before .before .before .before .before .args .key in (
+        bounded p (omega (arith, place-ends _ p (q .0), place-section (kindAt kind) (drop at ws))),
+        bounded seen
+            (omega (arith, q .1, in-near kind (key .severity) (key .letter) (key .column) (drop at ws))),
+      )
 
 mul-from : tie.Need-mul-from Inv-loop μ-loop
-mul-from c = omega (arith, numbers-low (now (c .before .before .before .args .book)))
+mul-from c = omega (arith, c .before .loop .inv .within, numbers-low (now (c .before .before .before .args .book)))
 
 sub-check-section : tie.Need-sub-check-section Inv-loop μ-loop
-sub-check-section c = omega (arith, numbers-low (now (c .before .before .before .args .book)))
+sub-check-section c =
+    omega (arith, c .before .loop .inv .within, numbers-low (now (c .before .before .before .args .book)))
 
 part-check-section-start : tie.Need-part-check-section-start Inv-loop μ-loop
-part-check-section-start c = omega (arith, numbers-low (now (c .before .before .before .args .book)))
+part-check-section-start c =
+    omega (arith, c .before .loop .inv .within, numbers-low (now (c .before .before .before .args .book)))
 
-part-check-section-end : tie.Need-part-check-section-end Inv-loop μ-loop
-part-check-section-end c = search needs
-
-check-section-requires : tie.Need-check-section-requires Inv-loop μ-loop
-check-section-requires c κs = omega arith
-
-enum-known-size : tie.Need-enum-known-size Inv-loop μ-loop
-enum-known-size c = search needs
-
-held-place-requires : tie.Need-held-place-requires Inv-loop μ-loop
-held-place-requires c κs =
-    let a = c .before .before .before .before .before .before .before .before .args in
-    let l = c .before .before .before .before .before .before .loop in
-    let s = now (a .book) in
-    let ws = numbersOf s in
-    let k = kindAt (l .kind) in
-    let e = drop (l .at) ws in
-    let look = seekIn k (keyFor k (a .severity) (a .letter) (a .column)) e in
-    let given = c .before .size .given in
-    let t = from-part s (l .at) (l .kind) (a .severity) (a .letter) (a .column) _
-    (c .before .before .before .check-section .ensures) in
-    let r = ends-of (section k e) k e look _ (given .0 .0) (given .0 .1 .0) t (given .1) in
-    let m : given .0 .0 ≤ length e = rw (place-ends _ _ (r .0)) (place-section k e) in
-    omega (arith, r .1 .1, length-drop (l .at) ws, numbers-low s)
+held-after-requires : tie.Need-held-after-requires Inv-loop μ-loop
+held-after-requires c κs = ends-bounded (c .before .before .before) _ _ (c .before .size .given .1) .1
 
 add-at : tie.Need-add-at Inv-loop μ-loop
-add-at c =
-    let a = c .before .before .before .before .before .before .before .before .before .args in
-    let l = c .before .before .before .before .before .before .before .loop in
-    let s = now (a .book) in
-    let ws = numbersOf s in
-    let k = kindAt (l .kind) in
-    let e = drop (l .at) ws in
-    let look = seekIn k (keyFor k (a .severity) (a .letter) (a .column)) e in
-    let given = c .before .before .size .given in
-    let t = from-part s (l .at) (l .kind) (a .severity) (a .letter) (a .column) _
-    (c .before .before .before .before .check-section .ensures) in
-    let r = ends-of (section k e) k e look _ (given .0 .0) (given .0 .1 .0) t (given .1) in
-    let m : given .0 .0 ≤ length e = rw (place-ends _ _ (r .0)) (place-section k e) in
-    omega (arith, m, length-drop (l .at) ws, numbers-low s)
-
-add-kind : tie.Need-add-kind Inv-loop μ-loop
-add-kind c = omega arith
-
-loop-less : tie.Need-loop-less Inv-loop μ-loop
-loop-less c = omega arith
+add-at c = omega (arith, ends-bounded (c .before .before .before .before) _ _ (c .before .before .size .given .1) .0)
 
 loop-again : tie.Need-loop-again Inv-loop μ-loop
 loop-again c =
-    let a = c .before .before .before .before .before .before .before .before .before .args in
-    let l = c .before .before .before .before .before .before .before .loop in
-    let s = now (a .book) in
-    let ws = numbersOf s in
-    let k = kindAt (l .kind) in
-    let e = drop (l .at) ws in
-    let look = seekIn k (keyFor k (a .severity) (a .letter) (a .column)) e in
-    let given = c .before .before .size .given in
-    let t = from-part s (l .at) (l .kind) (a .severity) (a .letter) (a .column) _
-    (c .before .before .before .before .check-section .ensures) in
-    let r = ends-of (section k e) k e look _ (given .0 .0) (given .0 .1 .0) t (given .1) in
-    let m : given .0 .0 ≤ length e = rw (place-ends _ _ (r .0)) (place-section k e) in
-    let near : c .held-place .result ≤ length ws =
-    rw (c .held-place .ensures)
-    (held-near (length ws) (l .kind) (a .asked) (l .held) (l .at) (given .0 .1 .0) (omega arith)
-    (omega (arith, r .1 .1, length-drop (l .at) ws))) in
-    let held = held-next (a .asked) (a .severity) (a .letter) (a .column) ws (l .kind) (l .at) (l .held) (given .0 .0)
-    (given .0 .1 .0) (omega arith) (l .inv .1 .1 .1 .1) (r .0) (r .1 .0) in (
-      omega arith,
-      (
-        omega (arith, m, length-drop (l .at) ws),
-        (
-          near,
-          (
-            l .inv .1 .1 .1 .0 ∙ sections-next kinds variables (l .kind) (l .at) ws (given .0 .0) (omega arith) (r .0),
-            rw (c .held-place .ensures) held,
-          ),
-        ),
-      ),
-    )
+    let q = ends-of (read (c .before .before .before .before)) (c .before .before .size .given .1) in
+    book-next (c .before .before .before .before .before .before .before .loop .inv) (omega arith) (q .0) (q .1)
+    (c .held-after .ensures)
 
-enum-known-p : tie.Need-enum-known-p Inv-loop μ-loop
-enum-known-p c = search needs
-
-add-t19 : tie.Need-add-t19 Inv-loop μ-loop
-add-t19 c =
-    let a = c .before .before .before .before .before .before .before .before .args in
-    let l = c .before .before .before .before .before .before .loop in
-    let s = now (a .book) in
-    let ws = numbersOf s in
-    let k = kindAt (l .kind) in
-    let e = drop (l .at) ws in
-    let look = seekIn k (keyFor k (a .severity) (a .letter) (a .column)) e in
-    let given = c .before .p .given in
-    let t = from-part s (l .at) (l .kind) (a .severity) (a .letter) (a .column) _
-    (c .before .before .before .check-section .ensures) in
-    let q = broken-of (section k e) k e look _ (given .0 .0) t (given .1) in
-    let m : given .0 .0 ≤ length e = rw (place-broken _ _ q) (place-section k e) in
-    omega (arith, m, length-drop (l .at) ws, numbers-low s)
+add-t17 : tie.Need-add-t17 Inv-loop μ-loop
+add-t17 c =
+    let d = c .before .before .before in
+    let p = c .before .p .given .0 .0 in
+    let q = broken-of (read d) (c .before .p .given .1) in
+    let l : p ≤ length (drop (at d) (ws d)) =
+    omega (arith, place-broken _ p q, place-section (kindAt (kind d)) (drop (at d) (ws d))) in
+    omega (arith, bounded d p l)
 
 returns : tie.Need-returns Inv-loop μ-loop
 returns c =
-    let a = c .before .before .before .before .before .before .before .before .args in
-    let l = c .before .before .before .before .before .before .loop in
-    let s = now (a .book) in
-    let ws = numbersOf s in
-    let k = kindAt (l .kind) in
-    let e = drop (l .at) ws in
-    let look = seekIn k (keyFor k (a .severity) (a .letter) (a .column)) e in
-    let given = c .before .p .given in
-    let t = from-part s (l .at) (l .kind) (a .severity) (a .letter) (a .column) _
-    (c .before .before .before .check-section .ensures) in
-    let q = broken-of (section k e) k e look _ (given .0 .0) t (given .1) in
-    read-broken (sections kinds ws) (kindAt (a .asked)) ws
-    (lookUp (a .asked) (a .severity) (a .letter) (a .column) ws) (l .at + given .0 .0)
-    (sym (l .inv .1 .1 .1 .0 ∙ sections-broken kinds variables (l .kind) (l .at) ws (given .0 .0) (omega arith) q))
-
-enum-told : tie.Need-enum-told Inv-loop μ-loop
-enum-told c = search needs
+    let d = c .before .before .before in
+    book-broken (d .before .before .before .loop .inv) (omega arith) (broken-of (read d) (c .before .p .given .1))
 
 returns-2 : tie.Need-returns-2 Inv-loop μ-loop
 returns-2 c =
-    let a = c .before .before .before .before .before .before .before .args in
-    let l = c .before .before .before .before .before .loop in
-    let s = now (a .book) in
-    let ws = numbersOf s in
-    let k = kindAt (l .kind) in
-    let e = drop (l .at) ws in
-    let look = seekIn k (keyFor k (a .severity) (a .letter) (a .column)) e in
-    let t = from-part s (l .at) (l .kind) (a .severity) (a .letter) (a .column) _
-    (c .before .before .check-section .ensures) in
-    let q = short-of (section k e) k e look _ t (c .enum-told .given .1) in
-    read-short (sections kinds ws) (kindAt (a .asked)) ws
-    (lookUp (a .asked) (a .severity) (a .letter) (a .column) ws)
-    (sym (l .inv .1 .1 .1 .0 ∙ sections-short kinds variables (l .kind) (l .at) ws (omega arith) q))
-
-returns-3 : tie.Need-returns-3 Inv-loop μ-loop
-returns-3 c =
-    let a = c .before .before .before .args in
-    let l = c .before .loop in
-    let ws = numbersOf (now (a .book)) in
-    read-ends (sections kinds ws) (kindAt (a .asked)) ws
-    (lookUp (a .asked) (a .severity) (a .letter) (a .column) ws) (l .at) (l .held)
-    (sym (l .inv .1 .1 .1 .0 ∙ sections-done kinds variables (l .kind) (l .at) ws (omega arith)))
-    (l .inv .1 .1 .1 .1 .behind (omega arith)) (omega arith)
+    let d = c .before .before in
+    book-shorts (d .before .before .before .loop .inv) (omega arith) (short-of (read d) (c .enum-told .given .1))
 
 pub check-sections-spec : {M : Type 1} → statement M
 check-sections-spec =
@@ -205,21 +105,21 @@ check-sections-spec =
     (tie.spec
     Inv-loop
     μ-loop
-    loop-holds
+    (λ c. book-opens)
     mul-from
     sub-check-section
     part-check-section-start
-    part-check-section-end
-    check-section-requires
-    enum-known-size
-    held-place-requires
+    (λ c. search needs)
+    (λ c κs. search needs)
+    (λ c. search needs)
+    held-after-requires
     add-at
-    add-kind
-    loop-less
+    (λ c. omega arith)
+    (λ c. omega arith)
     loop-again
-    enum-known-p
-    add-t19
+    (λ c. search needs)
+    add-t17
     returns
-    enum-told
+    (λ c. search needs)
     returns-2
-    returns-3)
+    (λ c. book-done (c .before .loop .inv) (omega arith)))

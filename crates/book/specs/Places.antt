@@ -1,0 +1,63 @@
+-- Where the entry under a key stands. Definitions only.
+-- Places are counted in numbers from the start of a stretch; 0, where a section's count stands, is none.
+use Prim.Native.Nat.{ℕ, zero, suc, _+_}
+use mathlib.Core.Bool.{Bool, cond}
+use mathlib.Core.List.{List}
+use lib.Dec.{eqb, ltb}
+use lib.ListN.{length, getD, take, drop}
+use Rattle.rules.specs.Refusals.{Answer, refused, given, noPlan}
+use Rattle.rules.specs.Numbers.{numbersOf}
+use Rattle.rules.specs.Book.{Walk, ends, broken, short, Kind, sizeOf, keyOf, sameKey, sections, kinds, kindAt}
+use Rattle.rules.specs.Book.{keyFor, checkBook, onSound}
+use Rattle.entry.specs.Paper.{keyPaper}
+use Rattle.entry.specs.declared.Key.{Key}
+
+-- a place seen, or else a later one
+abbrev pub orElse : ℕ → ℕ → ℕ
+orElse seen later = cond (eqb seen 0) later seen
+
+-- is the entry at a place under the key?
+abbrev pub underAt : ℕ → Key → ℕ → List ℕ → Bool
+underAt kind key at ws = sameKey (keyOf (kindAt kind) (drop at ws)) (keyPaper (kindAt kind) key)
+
+-- the first of n entries, from a place on, that is under the key
+unfoldable pub underFrom : Kind → List ℕ → ℕ → ℕ → List ℕ → ℕ
+underFrom k key zero at ws = 0
+underFrom k key (suc n) at ws =
+    cond (sameKey (keyOf k (drop at ws)) key) at (underFrom k key n (at + sizeOf k (drop at ws)) ws)
+
+-- in a section, after its count
+abbrev pub placeIn : Kind → List ℕ → List ℕ → ℕ
+placeIn k key ws = underFrom k key (getD ws 0 0) 1 ws
+
+-- a place of a stretch that starts at a place
+abbrev pub onward : ℕ → ℕ → ℕ
+onward at seen = cond (eqb seen 0) 0 (at + seen)
+
+-- where reading ends, a place; else none
+abbrev pub atEnd : Walk → (ℕ → ℕ) → ℕ
+atEnd (ends p) place = place p
+atEnd (broken p) place = 0
+atEnd short place = 0
+
+-- in the section at place j of the order; a section that is not there holds nothing
+unfoldable pub placeUnder : ℕ → (Kind → List ℕ) → List ℕ → ℕ
+placeUnder j key ws =
+    cond (ltb j (length kinds))
+    (atEnd (sections (take j kinds) ws) (λ p. onward p (placeIn (kindAt j) (key (kindAt j)) (drop p ws)))) 0
+
+abbrev pub placeOf : ℕ → Key → List ℕ → ℕ
+placeOf j key ws = placeUnder j (λ k. keyPaper k key) ws
+
+-- the place held, after a section of a kind that starts at a place
+abbrev pub heldAfter : ℕ → ℕ → ℕ → ℕ → ℕ → ℕ
+heldAfter kind asked held at seen = cond (eqb kind asked) (onward at seen) held
+
+-- "no book entry under the key"
+abbrev pub fromPlace : ℕ → Answer ℕ
+fromPlace p = cond (eqb p 0) (refused noPlan 0) (given p)
+
+-- "Each entry that takes a book checks it first."
+unfoldable pub placeHeld : ℕ → ℕ → ℕ → ℕ → List ℕ → Answer ℕ
+placeHeld j severity letter column book =
+    onSound (checkBook book) (fromPlace (placeUnder j (λ k. keyFor k severity letter column) (numbersOf book)))
