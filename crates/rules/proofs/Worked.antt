@@ -145,13 +145,15 @@ edgeCases =
     ∷ (fromBelow (pos 10 ∷ pos 12 ∷ pos 14 ∷ []) 5 3500 is (1 ∷ []))
     ∷ (fromBelow (pos 10 ∷ pos 12 ∷ pos 14 ∷ []) 5 3501 is (0 ∷ []))
     ∷ (fromBelow (pos 10 ∷ pos 12 ∷ pos 14 ∷ []) 13 1 is (0 ∷ []))
-    -- the screen: no reading, half a reading, 50, 51; 1,000, 1,001
+    -- the screen: no reading, half a reading, 50, 51; 1,000, 1,001, −1,000, −1,001
     ∷ (notShown (screen []) is (7 ∷ []))
     ∷ (notShown (screen (7 ∷ [])) is (7 ∷ []))
     ∷ (notShown (screen (replicate 100 0)) is [])
     ∷ (notShown (screen (replicate 102 0)) is (7 ∷ []))
     ∷ (notShown (screen (232 ∷ 3 ∷ [])) is [])
     ∷ (notShown (screen (233 ∷ 3 ∷ [])) is (9 ∷ []))
+    ∷ (notShown (screen (24 ∷ 252 ∷ [])) is [])
+    ∷ (notShown (screen (23 ∷ 252 ∷ [])) is (9 ∷ []))
     ∷ []
 
 -- The cases that are not starred, and edges beside them.

@@ -4,15 +4,16 @@ use Prim.Native.Nat.{ℕ, suc, _*_, _≤_, _<_}
 use mathlib.Core.Path.{_≡_}
 use mathlib.Core.Bool.{Bool, true, false, cond}
 use mathlib.Core.List.{List}
+use lib.Dec.{leb}
 use lib.IntN.{ℤ, pos}
 use lib.ListN.{length, getD, take}
 use Rattle.rules.specs.Numbers.{numbersOf, sumOf}
 use Rattle.rules.specs.Codes.{illegal, anyIllegal}
 use Rattle.rules.specs.Verdict.{Verdict, Decision, accepts, rejects, goesOn}
-use Rattle.rules.specs.Single.{Plan, singleVerdict}
+use Rattle.rules.specs.Single.{Plan}
 use Rattle.rules.specs.Staged.{StagedPlan, stageAt, stagesFrom, totalSize, stageDecides}
-use Rattle.rules.specs.Sequential.{SequentialPlan, itemDecides, sequentialVerdict}
-use Rattle.rules.specs.Variables.{VariablesPlan, inGauge, readingsOf, readingsVerdict, acceptsReadings}
+use Rattle.rules.specs.Sequential.{SequentialPlan, itemDecides}
+use Rattle.rules.specs.Variables.{VariablesPlan, inGauge, readingsOf, acceptsReadings}
 use Rattle.rules.specs.Variables.{sumZ, squaresZ}
 use Rattle.rules.specs.Screen.{Shown, shownOf}
 use Rattle.rules.specs.Reporting.{Row, NoRow}
@@ -35,7 +36,15 @@ ItemRows column sample plan =
 pub record ItemsJudged (column : ℕ) (sample : List ℕ) (plan : Plan) (v : Verdict) : Type 0 where
   pub whole : length sample ≡ 2 * plan .n
   pub legal : IllegalAt column (numbersOf sample) → ⊥
-  pub verdict : singleVerdict plan (sumOf (numbersOf sample)) ≡ v
+  pub verdict :
+      record {
+        accepted = leb (sumOf (numbersOf sample)) (plan .ac);
+        used = plan .n;
+        total = sumOf (numbersOf sample);
+        stage = 1;
+        stages = 1;
+      }
+      ≡ v
 
 -- A staged or sequential sample: 8 for an illegal item that a walk meets; 7 where it meets none and there is no verdict.
 abbrev pub SampleRows : (Verdict → Type 0) → Type 0 → ℕ → Type 0
@@ -50,7 +59,15 @@ pub record EndsAtItem (p : SequentialPlan) (sample : List ℕ) (v : Verdict) : T
   pub last : itemDecides p (length (numbersOf sample)) (sumOf (numbersOf sample)) ≡ says (v .accepted)
   pub earlier : (i : ℕ) → 0 < i → i < length (numbersOf sample)
       → itemDecides p i (sumOf (take i (numbersOf sample))) ≡ goesOn
-  pub verdict : sequentialVerdict (length (numbersOf sample)) (sumOf (numbersOf sample)) (v .accepted) ≡ v
+  pub verdict :
+      record {
+        accepted = v .accepted;
+        used = length (numbersOf sample);
+        total = sumOf (numbersOf sample);
+        stage = 1;
+        stages = 1;
+      }
+      ≡ v
 
 -- A sequential walk meets an item over 1 before any item decides.
 pub record MeetsItem (p : SequentialPlan) (sample : List ℕ) : Type 0 where
@@ -115,7 +132,15 @@ pub record ReadingsJudged (upper : Bool) (limit : ℤ) (bytes : List ℕ) (plan 
     pub whole : length bytes ≡ 2 * plan .n
     pub readings-in : OutAt (readingsOf bytes) → ⊥
     pub limit-in : inGauge limit ≡ true
-    pub verdict : readingsVerdict plan (acceptsReadings upper plan limit (readingsOf bytes)) ≡ v
+    pub verdict :
+        record {
+          accepted = acceptsReadings upper plan limit (readingsOf bytes);
+          used = plan .n;
+          total = 0;
+          stage = 1;
+          stages = 1;
+        }
+        ≡ v
 
 -- The readings that a screen shows: 1 to 50, none half there. 7 for others, 9 for a reading out of range.
 pub record Fits (bytes : List ℕ) (n : ℕ) : Type 0 where

@@ -4,10 +4,12 @@ use Prim.Native.Nat.{ℕ, suc, _≤_, _<_}
 use mathlib.Core.Path.{_≡_}
 use mathlib.Core.Bool.{true}
 use mathlib.Core.List.{List}
+use lib.Dec.{leb}
 use lib.ListN.{length, getD}
 use Rattle.rules.specs.Refusals.{Answer, refused, given}
 use Rattle.rules.specs.Verdict.{Verdict, Judged}
-use Rattle.rules.specs.Single.{Plan, tablePlan, singleVerdict}
+use Rattle.rules.specs.Codes.{letterOf}
+use Rattle.rules.specs.Single.{Plan, cutTo, tablePlan}
 use Rattle.rules.specs.Staged.{stagesOf, totalSize}
 use Rattle.rules.specs.Severity.{Lot, Event, lot, resubmitted, steadyIs, permissionIs, corrective, unknown}
 use Rattle.rules.specs.Severity.{Record, step, inRange}
@@ -15,7 +17,7 @@ use Rattle.rules.specs.Reading.{severityRead}
 use Rattle.rules.specs.History.{Work, eventIn, after, past}
 use Rattle.rules.specs.Book.{sound, checkBook, found, nothing, stagedOf, sequentialOf, variablesOf}
 use Rattle.rules.specs.Entries.{Asked, lookedUp, reducedSection, stagedSection, sequentialSection}
-use Rattle.rules.specs.Entries.{variablesSection, reducedPlan, plainPlan, Closed, Offered, eventFor}
+use Rattle.rules.specs.Entries.{variablesSection, plainPlan, Closed, Offered, eventFor}
 use Rattle.rules.specs.Reporting.{Row, NoRow, Then}
 
 -- 1 to 5, "of every entry that judges or plans a lot", and then its own rows.
@@ -38,12 +40,18 @@ NoReduced q book = (q .severity ≡ 2) × (lookedUp reducedSection q book ≡ no
 abbrev pub SinglePlanRows : Asked → List ℕ → ℕ → Type 0
 SinglePlanRows q book = LotRows q (Row 6 (NoReduced q book) NoRow)
 
+-- "Reduced singles come from the plan book, by the Table 1 letter; a size at or above the lot is cut alike": the plan
+-- of an entry under that letter.
+abbrev pub cutFrom : Asked → List ℕ → Plan
+cutFrom q e =
+    record { letter = letterOf (q .size) (q .level); n = cutTo (q .size) (getD e 2 0); ac = getD e 3 0 }
+
 -- Under reduced inspection the book's entry, else the tables.
 pub record SinglePlanned (q : Asked) (book : List ℕ) (plan : Plan) : Type 0 where
   pub book-sound : checkBook book ≡ sound
   pub lot : Plannable q
   pub from-book : q .severity ≡ 2
-      → (e : List ℕ) × (lookedUp reducedSection q book ≡ found e) × (reducedPlan q e ≡ plan)
+      → (e : List ℕ) × (lookedUp reducedSection q book ≡ found e) × (cutFrom q e ≡ plan)
   pub from-tables : (q .severity ≡ 2 → ⊥) → tablePlan (q .severity) (q .size) (q .level) (q .column) ≡ plan
 
 -- The plans that only a book supplies, by the section and by how many items an entry needs. 6 for "no book entry under
@@ -96,7 +104,9 @@ TotalRows q total =
 pub record TotalJudged (q : Asked) (total : ℕ) (j : Judged Plan Verdict) : Type 0 where
   pub planned : PlainPlanned q (j .plan)
   pub within-n : q .column ≤ 15 → total ≤ j .plan .n
-  pub verdict : singleVerdict (j .plan) total ≡ j .verdict
+  pub verdict :
+      record { accepted = leb total (j .plan .ac); used = j .plan .n; total = total; stage = 1; stages = 1 }
+      ≡ j .verdict
 
 -- A lot closed: it is judged, and taken into the record as the event that it stands for.
 pub record Closes {P : Type 0} (r : Record) (o : Offered) (judged : Answer (Judged P Verdict))
