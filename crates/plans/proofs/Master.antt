@@ -4,15 +4,14 @@
 use Prim.Native.Nat.{ℕ, zero, suc, _+_, _≤_, _<_}
 use mathlib.Core.Path.{_≡_, refl, ap, sym}
 use mathlib.Core.Bool.{Bool, true, false, cond, _&&_, and-false}
-use mathlib.Core.List.{[]}
 use native.Mathlib.Nat.{le-antisymm, le-of-suc-le-suc}
 use native.Mathlib.Omega.{arith}
-use lib.Dec.{T, leb, leb→le, eqb, eqb→eq}
+use lib.Dec.{T, leb, eqb, eqb→eq}
 use borrow.Author.Tests.{le-leb, lt-leb}
-use lib.ListN.{length, getD, List·getD-eq-default}
 use Rattle.rules.specs.Single as paper
-use Rattle.rules.specs.Single.{Box, down, up, number, rowAt, boxAt, masterTable}
-use Rattle.rules.proofs.Bounded.{both-left, both-right, all, all-at, all-at₂}
+use Rattle.rules.specs.Single.{Box, down, up, number, rowAt, boxAt}
+use Rattle.rules.proofs.Bounded.{both-left, both-right, all, all-at₂}
+use Rattle.rules.proofs.Tables.{row-over}
 use Rattle.plans.specs.Tables.{row}
 use Rattle.plans.specs.Paper.{boxIn, rowPaper}
 
@@ -87,13 +86,6 @@ down-there : T (all 2 (λ severity. all 14 (downThere severity)))
 unfolding downThere sameRow sameBox
 down-there = tt
 
-listed : ℕ → Bool
-listed severity = leb (length (getD masterTable severity [])) 27
-
-listed-all : T (all 2 listed)
-unfolding listed
-listed-all = tt
-
 either : (t : Bool) (b : Box) → b ≡ cond t b b
 either true b = refl
 either false b = refl
@@ -107,13 +99,8 @@ module _ (severity column letter : ℕ) (v : severity < 2) where
       rw e (either (leb 0 letter && leb letter 0) down)
 
   pub box-over : 26 < letter + column → up ≡ boxAt severity column letter
-  unfolding boxAt listed
-  box-over h =
-      let l : length (getD masterTable severity []) ≤ letter + column =
-      omega (arith, leb→le (length (getD masterTable severity [])) 27 (all-at 2 listed listed-all severity v)) in
-      let e : rowAt severity (letter + column) ≡ paper.all up =
-      List·getD-eq-default (getD masterTable severity []) (paper.all up) l in
-      rw e (either (leb 0 letter && leb letter 0) up)
+  unfolding boxAt
+  box-over h = rw (row-over severity (letter + column) v h) (either (leb 0 letter && leb letter 0) up)
 
   module _ (first last there elsewhere : ℕ)
       (e : rowPaper (row first last there elsewhere) ≡ rowAt severity (letter + column)) where

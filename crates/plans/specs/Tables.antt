@@ -1,10 +1,15 @@
--- The code's letters as lists, which `proofs/` shows to be those of rules, and a row of the code by its numbers.
+-- The code's sizes and letters of Table 1 as lists, which `proofs/` shows to be those of rules, and a row of the master
+-- tables by its numbers.
 -- Definitions only.
 use Prim.Native.Nat.{ℕ}
 use mathlib.Core.List.{List, [], _∷_}
 use Rattle.plans.specs.declared.Row.{Row}
 
--- a row of letters for each row of Table 1
+-- the last size of each row of Table 1 but the last ..
+abbrev pub upTo : List ℕ
+upTo = 8 ∷ 15 ∷ 25 ∷ 50 ∷ 90 ∷ 150 ∷ 280 ∷ 500 ∷ 1200 ∷ 3200 ∷ 10000 ∷ 35000 ∷ 150000 ∷ 500000 ∷ []
+
+-- .. and each row's letters
 abbrev pub letters : List (List ℕ)
 letters =
     (0 ∷ 0 ∷ 0 ∷ 0 ∷ 0 ∷ 0 ∷ 1 ∷ [])

@@ -2,7 +2,8 @@
 // and the types of a lot that is asked about, its plan and its verdict.
 ghost use mathlib.Core.Path.{_≡_};
 ghost use Prim.Native.Nat.{_+_, _-_, _≤_, _<_};
-ghost use Rattle.rules.specs.Codes.{rowOf, tableOneLetter};
+ghost use lib.ListN.{getD};
+ghost use Rattle.rules.specs.Codes.{tableOne, above, rowOf, tableOneLetter};
 ghost use Rattle.rules.specs.Single.{rowAt, boxAt, landing, landingOf, cutTo, planAt, tighterAc};
 ghost use Rattle.rules.specs.Entries.{askedLetter, plainPlan};
 ghost use Rattle.rules.specs.Refusals.{refused};
@@ -121,7 +122,7 @@ pub struct SinglePlanned {
 }
 
 fn row_of(size: u32) -> usize
-    ensures { λ r. ⌜ (r ≡ rowOf size) × (r < 15) ⌝ }
+    ensures { λ r. ⌜ (rowOf size ≡ getD tableOne r above) × (r < 15) ⌝ }
 {
     let mut i: usize = 0;
     while i < 14 {

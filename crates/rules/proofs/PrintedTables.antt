@@ -1,87 +1,79 @@
--- Table 1 and the master table as document 01 prints them, in its letters, arrows and numbers: every letter of every
--- size, every size, every box. And what both columns of the master table share: along s no Ac falls, and at the same s
--- the tightened Ac is at most the normal one.
+-- Second readings of the tables: the row of every lot size in Table 1, and every box of the master tables by letter. And
+-- what both columns of the master table share: along s no Ac falls, and at the same s the tightened Ac is at most the
+-- normal one.
 -- Assumes nothing.
-use Prim.Native.Nat.{ℕ, _+_, _*_, _≤_, _<_}
-use mathlib.Core.Path.{_≡_, refl}
-use mathlib.Core.Bool.{Bool, true, false, cond, _&&_}
-use mathlib.Core.List.{List, [], _∷_, map}
+use Prim.Native.Nat.{ℕ, zero, suc, _+_, _≤_, _<_}
+use mathlib.Core.Path.{_≡_, refl, ap, _∙_}
+use mathlib.Core.Bool.{Bool, true, false, _&&_}
+use mathlib.Core.List.{List, [], _∷_}
 use native.Mathlib.Omega.{arith}
-use native.Mathlib.Nat.{le-refl}
-use borrow.Author.Tests.{leb-true, leb-false}
-use lib.Dec.{T, leb, leb→le, le→leb, eqb, eqb→eq}
-use lib.ListN.{getD}
+use borrow.Author.Tests.{le-leb, lt-leb}
+use lib.Dec.{T, leb, leb→le, le→leb, ltb, ltb→lt, lt→ltb, eqb, eqb→eq}
+use lib.ListN.{length, getD}
 use Rattle.rules.specs.Ascii.{ascii}
-use Rattle.rules.specs.Codes.{normal, tightened, upTo, tableOne, rowFrom, rowOf, letterOf}
-use Rattle.rules.specs.Single.{Box, down, up, number, sizes, rowAt, boxAt, acOf}
+use Rattle.rules.specs.Codes.{normal, tightened, letterNames, letters, SizeRow, tableOne, above, rowFrom, rowOf}
+use Rattle.rules.specs.Codes.{letterOf}
+use Rattle.rules.specs.Single.{Box, down, up, number, rowAt, boxAt, acOf}
 use Rattle.rules.specs.Book.{sameKey}
-use Rattle.rules.specs.Log.{splitAt, space, decimal, digitsFrom, letterName}
-use Rattle.rules.specs.Printed.{names, printedRow, firstSize, printedBox, boxName}
+use Rattle.rules.specs.Log.{splitAt, digitsFrom, letterName}
+use Rattle.rules.specs.Printed.{sizeRow, firstSize, printedBox, boxName}
 use Rattle.rules.proofs.Bounded.{both-left, both-right, implies, implies-at, all, all-at, all-at₂, all-at₃}
+use Rattle.rules.proofs.Bounded.{by-le}
 use Rattle.rules.proofs.LookUp.{same-key}
+use Rattle.rules.proofs.Tables.{of-rows, row-has}
 
-row-from : (k : ℕ) (rows : List ℕ) (size : ℕ) → k ≤ rowFrom k rows size
+row-there : (rows : List SizeRow) (i size : ℕ) → i < length rows → ((j : ℕ) → j < i → getD rows j above .last < size)
+    → size ≤ getD rows i above .last → rowFrom rows size ≡ getD rows i above
 unfolding rowFrom
-row-from k [] size = le-refl k
-row-from k (last ∷ rows) size = go (leb size last) (row-from (k + 1) rows size)
-  where
-    go : (t : Bool) → k + 1 ≤ rowFrom (k + 1) rows size → k ≤ cond t k (rowFrom (k + 1) rows size)
-    go true h = le-refl k
-    go false h = omega arith
+row-there [] i size h low high = absurd (omega arith)
+row-there (row ∷ rows) zero size h low high = rw (le-leb size (row .last) high)
+row-there (row ∷ rows) (suc i) size h low high =
+    rw (lt-leb size (row .last) (low 0 (omega arith)))
+    (row-there rows i size (omega arith) (λ j l. low (suc j) (omega arith)) high)
 
-row-rises : (k : ℕ) (rows : List ℕ) (a b : ℕ) → a ≤ b → rowFrom k rows a ≤ rowFrom k rows b
+rows-past : (rows : List SizeRow) (size : ℕ) → ((j : ℕ) → j < length rows → getD rows j above .last < size)
+    → rowFrom rows size ≡ above
 unfolding rowFrom
-row-rises k [] a b l = le-refl k
-row-rises k (last ∷ rows) a b l = go (leb a last) (leb b last) refl refl (row-rises (k + 1) rows a b l)
-  where
-    go : (s t : Bool) → leb a last ≡ s → leb b last ≡ t → rowFrom (k + 1) rows a ≤ rowFrom (k + 1) rows b
-        → cond s k (rowFrom (k + 1) rows a) ≤ cond t k (rowFrom (k + 1) rows b)
-    go true true e f h = le-refl k
-    go true false e f h = omega (arith, row-from (k + 1) rows b)
-    go false true e f h = absurd (omega (arith, leb-false a last e, leb-true b last f))
-    go false false e f h = h
+rows-past [] size low = refl
+rows-past (row ∷ rows) size low =
+    rw (lt-leb size (row .last) (low 0 (omega arith))) (rows-past rows size (λ j l. low (suc j) (omega arith)))
 
--- both ends of a row stand in it
-endsIn : ℕ → Bool
-endsIn i = eqb (rowOf (firstSize i)) i && eqb (rowOf (printedRow i .last)) i
+-- the rows before a size end below it
+rising-size : ℕ → ℕ → Bool
+rising-size i j = implies (ltb j i) (ltb (sizeRow j .last) (firstSize i))
 
-ends-in : T (all 15 endsIn)
-unfolding endsIn rowOf rowFrom
-ends-in = tt
+sizes-rise : T (all 15 (λ i. all 15 (rising-size i)))
+unfolding rising-size
+sizes-rise = tt
 
-in-row : (i size : ℕ) → i < 15 → firstSize i ≤ size → size ≤ printedRow i .last → rowOf size ≡ i
-unfolding endsIn rowOf
-in-row i size h low high =
-    let t = all-at 15 endsIn ends-in i h in
-    let first : rowOf (firstSize i) ≡ i = eqb→eq _ _ (both-left (eqb (rowOf (firstSize i)) i) _ t) in
-    let last : rowOf (printedRow i .last) ≡ i = eqb→eq _ _ (both-right (eqb (rowOf (firstSize i)) i) _ t) in
-    let up : rowOf (firstSize i) ≤ rowOf size = row-rises 0 upTo (firstSize i) size low in
-    let down : rowOf size ≤ rowOf (printedRow i .last) = row-rises 0 upTo size (printedRow i .last) high in
-    omega arith
+module _ (i size : ℕ) (h : i < 15) (low : firstSize i ≤ size) where
+  below : (j : ℕ) → j < i → sizeRow j .last < size
+  unfolding rising-size
+  below j l =
+      let t = all-at₂ 15 15 rising-size sizes-rise i j h (omega arith) in
+      let b = implies-at (ltb j i) (ltb (sizeRow j .last) (firstSize i)) t (lt→ltb j i l) in
+      omega (arith, ltb→lt (sizeRow j .last) (firstSize i) b)
 
-named : ℕ → ℕ → Bool
-named i level = eqb (getD names (getD tableOne (i * 7 + level) 0) 0) (getD (printedRow i .letters) level 0)
+  -- A lot larger than all of the row before, and not larger than the row's last size, has that row's letters.
+  pub row-by-size : size ≤ sizeRow i .last → rowOf size ≡ sizeRow i
+  unfolding rowOf
+  row-by-size high =
+      by-le i 13 (λ l. row-there tableOne i size (omega arith) below high)
+      (λ l. let e : i ≡ 14 = omega arith in
+      rows-past tableOne size (λ j k. below j (omega arith)) ∙ rw e)
 
-named-all : T (all 15 (λ i. all 7 (named i)))
-unfolding named
-named-all = tt
+named : SizeRow → ℕ → Bool
+named row level = eqb (getD letterNames (getD (letters (row .levels)) level 0) 0) (getD (ascii (row .levels)) level 0)
 
--- Each lot size has the letters of its row, at every level.
-pub letters-as-printed : (i size level : ℕ) → i < 15 → firstSize i ≤ size → size ≤ printedRow i .last → level < 7
-    → getD names (letterOf size level) 0 ≡ getD (printedRow i .letters) level 0
-unfolding letterOf named
-letters-as-printed i size level h low high l =
-    rw (in-row i size h low high) (eqb→eq _ _ (all-at₂ 15 7 named named-all i level h l))
+allNamed : SizeRow → Bool
+allNamed row = all 7 (named row)
 
--- lotlog prints these letters.
-pub letters-as-listed : (letter : ℕ) → letterName letter ≡ getD names letter 0 ∷ []
-letters-as-listed letter = refl
-
--- "Sizes A to S"
-pub sizes-as-printed : map decimal sizes
-    ≡ splitAt space (ascii "2 3 5 8 13 20 32 50 80 125 200 315 500 800 1250 2000 3150")
-unfolding splitAt digitsFrom
-sizes-as-printed = refl
+-- The letter of a lot, as lotlog prints it, is the one that stands in its row.
+pub letters-as-listed : (size level : ℕ) → level < 7
+    → letterName (letterOf size level) ≡ getD (ascii (rowOf size .levels)) level 0 ∷ []
+unfolding letterOf allNamed named of-rows
+letters-as-listed size level h =
+    ap (λ (x : ℕ). x ∷ []) (eqb→eq _ _ (all-at 7 (named (rowOf size)) (row-has allNamed tt size) level h))
 
 holds-so : (b : Bool) → T b → b ≡ true
 holds-so true t = refl

@@ -3,19 +3,69 @@
 -- Assumes nothing.
 use Prim.Native.Nat.{ℕ, zero, suc, _+_, _-_, _*_, _≤_, _<_}
 use mathlib.Core.Path.{_≡_, refl, ap, subst}
-use mathlib.Core.Bool.{Bool, true, false}
+use mathlib.Core.Bool.{Bool, true, false, cond, _&&_}
+use mathlib.Core.List.{List, [], _∷_}
 use native.Mathlib.Omega.{arith}
 use lib.Dec.{T, leb, leb→le, le→leb, eqb, eqb→eq, ltb, ltb→lt}
-use Rattle.rules.specs.Codes.{normal, tightened, letterA, letterR, letterOf, tableOne, rowOf}
+use lib.ListN.{getD}
+use borrow.Author.Tests.{lt-leb}
+use Rattle.rules.specs.Codes.{normal, tightened, letterA, letterR, letters, SizeRow, tableOne, above, goesUpTo}
+use Rattle.rules.specs.Codes.{rowFrom, rowOf, letterOf}
+use Rattle.rules.specs.Single as paper
 use Rattle.rules.specs.Single.{Box, down, up, number, boxAt, Landing, landed, follow, landing, arrows}
-use Rattle.rules.specs.Single.{landingOf, acOf, tighterAc}
+use Rattle.rules.specs.Single.{landingOf, acOf, tighterAc, Line, masterTable, rowIn, rowAt}
 use Rattle.rules.specs.Printed.{Leads, there, downward, upward}
-use Rattle.rules.proofs.Bounded.{implies, implies-at, all, all-at₂, all-at₃, each-at, never}
+use Rattle.rules.proofs.Bounded.{both-left, both-right, implies, implies-at, all, all-at, all-at₂, all-at₃}
+use Rattle.rules.proofs.Bounded.{each, each-at, never}
+
+-- a test that every row of Table 1 passes, the row above too, is passed by the row of each size
+unfoldable pub of-rows : (SizeRow → Bool) → List SizeRow → Bool
+of-rows f [] = f above
+of-rows f (row ∷ rows) = f row && of-rows f rows
+
+has-from : (f : SizeRow → Bool) (rows : List SizeRow) (size : ℕ) → T (of-rows f rows) → T (f (rowFrom rows size))
+unfolding rowFrom of-rows
+has-from f [] size t = t
+has-from f (row ∷ rows) size t =
+    go (goesUpTo row size) (both-left (f row) (of-rows f rows) t)
+    (has-from f rows size (both-right (f row) (of-rows f rows) t))
+  where
+    go : (b : Bool) → T (f row) → T (f (rowFrom rows size)) → T (f (cond b row (rowFrom rows size)))
+    go true h l = h
+    go false h l = l
+
+pub row-has : (f : SizeRow → Bool) → T (of-rows f tableOne) → (size : ℕ) → T (f (rowOf size))
+unfolding rowOf
+row-has f t size = has-from f tableOne size t
+
+low : SizeRow → Bool
+low row = each 15 (letters (row .levels))
 
 -- Table 1 has no letter past R.
 pub letter-within : (size level : ℕ) → letterOf size level < 16
-unfolding letterOf
-letter-within size level = omega (arith, each-at 15 tableOne tt (rowOf size * 7 + level))
+unfolding letterOf low of-rows
+letter-within size level = omega (arith, each-at 15 (letters (rowOf size .levels)) (row-has low tt size) level)
+
+reach : List Line → Bool
+reach [] = true
+reach (line ∷ lines) = leb (line .last) 26 && reach lines
+
+reach-all : T (all 2 (λ severity. reach (getD masterTable severity [])))
+unfolding reach
+reach-all = tt
+
+rows-over : (lines : List Line) (s : ℕ) → T (reach lines) → 26 < s → rowIn lines s ≡ paper.all up
+unfolding reach
+rows-over [] s t h = refl
+rows-over (line ∷ lines) s t h =
+    let l = leb→le (line .last) 26 (both-left (leb (line .last) 26) (reach lines) t) in
+    rw (lt-leb s (line .last) (omega arith)) (rows-over lines s (both-right (leb (line .last) 26) (reach lines) t) h)
+
+-- "over 26": up
+pub row-over : (severity s : ℕ) → severity < 2 → 26 < s → rowAt severity s ≡ paper.all up
+row-over severity s v h =
+    rows-over (getD masterTable severity []) s
+    (all-at 2 (λ severity. reach (getD masterTable severity [])) reach-all severity v) h
 
 holds : Box → ℕ → Bool
 holds down ac = false

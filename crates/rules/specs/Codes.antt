@@ -1,9 +1,11 @@
 -- Document 01, 'Codes': levels, letters, columns, and Table 1. Definitions only.
-use Prim.Native.Nat.{ℕ, _+_, _*_}
+use Prim.Native.Nat.{ℕ, suc}
+use Prim.Native.String.{String}
 use mathlib.Core.Bool.{Bool, false, cond, _&&_, _||_}
-use mathlib.Core.List.{List, [], _∷_, _++_}
-use lib.Dec.{leb, ltb}
+use mathlib.Core.List.{List, [], _∷_, _++_, map}
+use lib.Dec.{leb, ltb, eqb}
 use lib.ListN.{getD}
+use Rattle.rules.specs.Ascii.{ascii}
 use Rattle.rules.specs.Refusals.{Answer, given, Check, _gives_, firstOf, lotTooSmall, noSuchLevel, noSuchColumn}
 
 -- "Severities: 0 normal, 1 tightened, 2 reduced, 3 stopped."
@@ -19,7 +21,19 @@ reduced = 2
 abbrev pub stopped : ℕ
 stopped = 3
 
--- "Letters 0 to 16: A B C D E F G H J K L M N P Q R S", those that document 01 names by themselves
+-- "Letters 0 to 16: A B C D E F G H J K L M N P Q R S"
+abbrev pub letterNames : List ℕ
+letterNames = ascii "ABCDEFGHJKLMNPQRS"
+
+-- the number of a letter: its place among the names
+abbrev pub placeIn : List ℕ → ℕ → ℕ
+placeIn [] name = 0
+placeIn (x ∷ xs) name = cond (eqb name x) 0 (suc (placeIn xs name))
+
+abbrev pub letters : String → List ℕ
+letters names = map (placeIn letterNames) (ascii names)
+
+-- the letters that document 01 names by themselves
 abbrev pub letterA : ℕ
 letterA = 0
 
@@ -47,39 +61,50 @@ letterChecks size level = (ltb size 2 gives lotTooSmall) ∷ (ltb 6 level gives 
 abbrev pub lotChecks : ℕ → ℕ → ℕ → List Check
 lotChecks size level column = letterChecks size level ++ ((ltb 25 column gives noSuchColumn) ∷ [])
 
--- "Letter by size up to": the last size of each row of Table 1 but the last, "above", which has none
-abbrev pub upTo : List ℕ
-upTo = 8 ∷ 15 ∷ 25 ∷ 50 ∷ 90 ∷ 150 ∷ 280 ∷ 500 ∷ 1200 ∷ 3200 ∷ 10000 ∷ 35000 ∷ 150000 ∷ 500000 ∷ []
+-- "Letter by size up to (Table 1 of 002), in level order": the last size of a row, and its seven letters
+pub record SizeRow : Type 0 where
+  pub last : ℕ
+  pub levels : String
 
--- Table 1, a row for each size, seven letters "in level order"
-abbrev pub tableOne : List ℕ
+infix 25 _has_
+abbrev pub _has_ : ℕ → String → SizeRow
+last has levels = record { last = last; levels = levels }
+
+abbrev pub tableOne : List SizeRow
 tableOne =
-    0 ∷ 0 ∷ 0 ∷ 0 ∷ 0 ∷ 0 ∷ 1
-    ∷ 0 ∷ 0 ∷ 0 ∷ 0 ∷ 0 ∷ 1 ∷ 2
-    ∷ 0 ∷ 0 ∷ 1 ∷ 1 ∷ 1 ∷ 2 ∷ 3
-    ∷ 0 ∷ 1 ∷ 1 ∷ 2 ∷ 2 ∷ 3 ∷ 4
-    ∷ 1 ∷ 1 ∷ 2 ∷ 2 ∷ 2 ∷ 4 ∷ 5
-    ∷ 1 ∷ 1 ∷ 2 ∷ 3 ∷ 3 ∷ 5 ∷ 6
-    ∷ 1 ∷ 2 ∷ 3 ∷ 4 ∷ 4 ∷ 6 ∷ 7
-    ∷ 1 ∷ 2 ∷ 3 ∷ 4 ∷ 5 ∷ 7 ∷ 8
-    ∷ 2 ∷ 2 ∷ 4 ∷ 5 ∷ 6 ∷ 8 ∷ 9
-    ∷ 2 ∷ 3 ∷ 4 ∷ 6 ∷ 7 ∷ 9 ∷ 10
-    ∷ 2 ∷ 3 ∷ 5 ∷ 6 ∷ 8 ∷ 10 ∷ 11
-    ∷ 2 ∷ 3 ∷ 5 ∷ 7 ∷ 9 ∷ 11 ∷ 12
-    ∷ 3 ∷ 4 ∷ 6 ∷ 8 ∷ 10 ∷ 12 ∷ 13
-    ∷ 3 ∷ 4 ∷ 6 ∷ 8 ∷ 11 ∷ 13 ∷ 14
-    ∷ 3 ∷ 4 ∷ 7 ∷ 9 ∷ 12 ∷ 14 ∷ 15 ∷ []
+    (8 has "AAAAAAB")
+    ∷ (15 has "AAAAABC")
+    ∷ (25 has "AABBBCD")
+    ∷ (50 has "ABBCCDE")
+    ∷ (90 has "BBCCCEF")
+    ∷ (150 has "BBCDDFG")
+    ∷ (280 has "BCDEEGH")
+    ∷ (500 has "BCDEFHJ")
+    ∷ (1200 has "CCEFGJK")
+    ∷ (3200 has "CDEGHKL")
+    ∷ (10000 has "CDFGJLM")
+    ∷ (35000 has "CDFHKMN")
+    ∷ (150000 has "DEGJLNP")
+    ∷ (500000 has "DEGJMPQ")
+    ∷ []
 
--- the first row that goes up to the size, counted from k
-unfoldable pub rowFrom : ℕ → List ℕ → ℕ → ℕ
-rowFrom k [] size = k
-rowFrom k (last ∷ rows) size = cond (leb size last) k (rowFrom (k + 1) rows size)
+-- "above": up to the largest lot
+abbrev pub above : SizeRow
+above = 4294967295 has "DEHKNQR"
 
-unfoldable pub rowOf : ℕ → ℕ
-rowOf size = rowFrom 0 upTo size
+abbrev pub goesUpTo : SizeRow → ℕ → Bool
+goesUpTo row size = leb size (row .last)
+
+-- the first row that goes up to the size
+unfoldable pub rowFrom : List SizeRow → ℕ → SizeRow
+rowFrom [] size = above
+rowFrom (row ∷ rows) size = cond (goesUpTo row size) row (rowFrom rows size)
+
+unfoldable pub rowOf : ℕ → SizeRow
+rowOf size = rowFrom tableOne size
 
 unfoldable pub letterOf : ℕ → ℕ → ℕ
-letterOf size level = getD tableOne (rowOf size * 7 + level) 0
+letterOf size level = getD (letters (rowOf size .levels)) level 0
 
 -- letter
 unfoldable pub tableOneLetter : ℕ → ℕ → Answer ℕ

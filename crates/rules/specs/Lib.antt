@@ -18,8 +18,8 @@ pub mod Terminal
 -- Second readings: the same said another way and proved to agree, so that a slip would have to be made in both alike.
 -- Reading says without a record what Severity says step by step (`agree`). Faults, by the places of Layout, says
 -- without a walk what Book finds (`lowest`, `sound-has-none`). Feeding says piece by piece what Log says of a whole
--- input (`any-pieces`). Printed has the two tables in document 01's letters, arrows and numbers (`letters-as-printed`,
--- `boxes-as-printed`).
+-- input (`any-pieces`). Printed has the rows of Table 1 by their first and last sizes (`row-by-size`), and the master
+-- tables letter by letter (`boxes-as-printed`).
 pub mod Reading
 pub mod Layout
 pub mod Faults

@@ -7,6 +7,7 @@ use lib.ListN.{length, getD}
 use Rattle.rules.specs.Refusals.{Answer, refused, given, unknownForm}
 use Prim.Native.Char.{code}
 use Rattle.rules.specs.Ascii.{ascii}
+use Rattle.rules.specs.Codes.{letterNames}
 use Rattle.rules.specs.Single.{Plan}
 use Rattle.rules.specs.Severity.{resubmitted, steadyIs, permissionIs, corrective, Record, fresh}
 use Rattle.rules.specs.History.{byteOf, Work, knows}
@@ -144,9 +145,9 @@ digitsFrom (suc k) n after =
 abbrev pub decimal : ℕ → List ℕ
 decimal n = digitsFrom 20 n []
 
--- "Letters 0 to 16: A B C D E F G H J K L M N P Q R S"; "N, T, R, or X stopped"
+-- a letter by its name; "N, T, R, or X stopped"
 abbrev pub letterName : ℕ → List ℕ
-letterName letter = getD (ascii "ABCDEFGHJKLMNPQRS") letter 0 ∷ []
+letterName letter = getD letterNames letter 0 ∷ []
 
 abbrev pub severityName : ℕ → List ℕ
 severityName severity = getD (ascii "NTRX") severity 0 ∷ []

@@ -1,10 +1,10 @@
--- Document 01, 'Single plans': sizes, the two master tables as rows of one, arrows, the cut to the lot, acceptance.
+-- Document 01, 'Single plans': sizes, the two master tables as printed, arrows, the cut to the lot, acceptance.
 -- Definitions only.
 use Prim.Native.Nat.{ℕ, zero, suc, _+_, _*_, _-_}
 use mathlib.Core.Bool.{cond, _&&_, not}
-use mathlib.Core.List.{List, [], _∷_, _++_, map}
+use mathlib.Core.List.{List, [], _∷_, map}
 use lib.Dec.{leb, eqb}
-use lib.ListN.{length, getD, replicate}
+use lib.ListN.{length, getD}
 use Rattle.rules.specs.Refusals.{Answer, given, firstOf, _gives_, wrongLength, illegalItem}
 use Rattle.rules.specs.Numbers.{numbersOf, sumOf}
 use Rattle.rules.specs.Codes.{normal, letterA, letterE, letterR, letterOf, anyIllegal}
@@ -38,26 +38,60 @@ butAt b other letter = record { first = letter; last = letter; there = other; el
 abbrev pub forAtoE : ℕ → Row
 forAtoE ac = record { first = letterA; last = letterE; there = number ac; elsewhere = up }
 
+-- A printed line of the table: the last s that it speaks of, and the row at each s.
+pub record Line : Type 0 where
+  pub last : ℕ
+  pub row : ℕ → Row
+
+-- "under 14"
+abbrev pub under : ℕ → Row → Line
+under s row = record { last = s - 1; row = λ _. row }
+
+-- "14"
+abbrev pub at : ℕ → Row → Line
+at s row = record { last = s; row = λ _. row }
+
+-- "17 to 24", "25, 26": one after the other
+abbrev pub along : ℕ → ℕ → List Row → Line
+along first last rows = record { last = last; row = λ s. getD rows (s - first) (all up) }
+
 -- "1 2 3 5 7 10 14 21"
 abbrev pub numbers : List ℕ → List Row
 numbers acs = map (λ ac. all (number ac)) acs
 
--- The normal and the tightened columns of the table, a row for each s from 0 to 26.
-abbrev pub masterTable : List (List Row)
-masterTable =
-    (replicate 14 (all down)
-    ++ (all (number 0) ∷ butAt up down letterA ∷ butAt down up letterR ∷ [])
-    ++ numbers (1 ∷ 2 ∷ 3 ∷ 5 ∷ 7 ∷ 10 ∷ 14 ∷ 21 ∷ [])
-    ++ (forAtoE 30 ∷ forAtoE 44 ∷ []))
-    ∷ (replicate 15 (all down)
-    ++ (all (number 0) ∷ butAt up down letterA ∷ all down ∷ [])
-    ++ numbers (1 ∷ 2 ∷ 3 ∷ 5 ∷ 8 ∷ 12 ∷ 18 ∷ [])
-    ++ (forAtoE 27 ∷ forAtoE 41 ∷ []))
+-- "| normal s | box |"
+abbrev pub normalTable : List Line
+normalTable =
+    under 14 (all down)
+    ∷ at 14 (all (number 0))
+    ∷ at 15 (butAt up down letterA)
+    ∷ at 16 (butAt down up letterR)
+    ∷ along 17 24 (numbers (1 ∷ 2 ∷ 3 ∷ 5 ∷ 7 ∷ 10 ∷ 14 ∷ 21 ∷ []))
+    ∷ along 25 26 (forAtoE 30 ∷ forAtoE 44 ∷ [])
     ∷ []
 
--- "over 26": up
+-- "| tightened s | box |"
+abbrev pub tightenedTable : List Line
+tightenedTable =
+    under 15 (all down)
+    ∷ at 15 (all (number 0))
+    ∷ at 16 (butAt up down letterA)
+    ∷ at 17 (all down)
+    ∷ along 18 24 (numbers (1 ∷ 2 ∷ 3 ∷ 5 ∷ 8 ∷ 12 ∷ 18 ∷ []))
+    ∷ along 25 26 (forAtoE 27 ∷ forAtoE 41 ∷ [])
+    ∷ []
+
+-- the two master tables, by severity
+abbrev pub masterTable : List (List Line)
+masterTable = normalTable ∷ tightenedTable ∷ []
+
+-- the first line that goes up to s; "over 26": up
+abbrev pub rowIn : List Line → ℕ → Row
+rowIn [] s = all up
+rowIn (line ∷ lines) s = cond (leb s (line .last)) (line .row s) (rowIn lines s)
+
 abbrev pub rowAt : ℕ → ℕ → Row
-rowAt severity s = getD (getD masterTable severity []) s (all up)
+rowAt severity s = rowIn (getD masterTable severity []) s
 
 abbrev pub boxOf : Row → ℕ → Box
 boxOf row letter = cond (leb (row .first) letter && leb letter (row .last)) (row .there) (row .elsewhere)
