@@ -1,2 +1,5 @@
-pub mod Room
-pub mod Waiting
+pub mod Putting
+pub mod Onwards
+pub mod Pieces
+pub mod Turning
+pub mod Whole

@@ -1,15 +1,17 @@
--- What a turn of the loop leaves: what is held, what was taken, and what waits in the output. Definitions only.
-use Prim.Native.Nat.{ℕ, zero, suc, _+_, _<_, _≤_}
+-- What each step of a turn leaves: what is held, what is left of the piece, and what waits in the output. Definitions
+-- only.
+use Prim.Native.Nat.{ℕ, _+_, _<_, _≤_}
 use mathlib.Core.Path.{_≡_}
-use mathlib.Core.Bool.{cond}
+use mathlib.Core.Bool.{Bool, true, false, cond}
 use mathlib.Core.List.{List, [], _∷_, _++_}
-use lib.Dec.{leb, eqb}
+use lib.Dec.{ltb, eqb}
+use lib.IntN.{ℤ}
 use lib.ListN.{length, take, drop}
 use lib.Seq.{sets}
+use Rattle.io.specs.Counts.{clamped}
 use Rattle.rules.specs.History.{Work, ours}
-use Rattle.rules.specs.Log.{newline}
-use Rattle.rules.specs.Feeding.{Held, holding, oneMore, afterLine, fed}
-use Rattle.lotlines.specs.declared.State.{State}
+use Rattle.rules.specs.Log.{newline, log}
+use Rattle.rules.specs.Feeding.{Held, holding, oneMore, ended, afterLine, finished}
 use Rattle.lotlines.specs.Paper.{paperHeld}
 use Rattle.lotstream.specs.declared.Turn.{Turn}
 
@@ -18,42 +20,75 @@ pub record PutAfter (waiting : ℕ) (text out last : List ℕ) (r : ℕ) : Type 
   pub next : r ≡ waiting + length text
   pub stored : last ≡ sets out waiting text
 
--- what still waits: nothing, where a line of 50 bytes would find no room and all was written
-abbrev pub waitingAfter : ℕ → ℕ → ℕ
-waitingAfter waiting room = cond (leb (waiting + 50) room) waiting 0
+-- the output for all the bytes that are still to come, from what is held
+unfoldable pub onwards : Work → Held → List ℕ → List ℕ
+onwards w s [] = finished w s
+onwards w s (b ∷ bs) =
+    cond (eqb b newline) (ended w s .text ++ onwards w (afterLine w s) bs)
+    (onwards w (holding (s .supply) (s .line) (oneMore (s .begun) b)) bs)
 
--- One line: held and taken are those of `fed`, and its text stands behind what waited.
-pub record LineLogged (s : State) (piece : List ℕ) (waiting : ℕ) (out last : List ℕ) (r : Turn) : Type 0 where
-  pub some : 0 < r .taken
+abbrev pub waits : Turn → List ℕ → List ℕ
+waits t output = take (t .waiting) output
+
+abbrev pub left : Turn → List ℕ → List ℕ
+left t piece = drop (t .taken) piece
+
+-- what is still to be written: what waits, and the output for the rest of the piece and what comes after it
+abbrev pub toCome : Turn → List ℕ → List ℕ → List ℕ → List ℕ
+toCome t piece output more = waits t output ++ onwards ours (paperHeld (t .state)) (left t piece ++ more)
+
+-- Lines of a piece: what is to be written stays, whatever comes after the piece.
+pub record Logs (t : Turn) (piece out last : List ℕ) (r : Turn) : Type 0 where
+  pub same : (more : List ℕ) → toCome r piece last more ≡ toCome t piece out more
   pub within : r .taken ≤ length piece
-  pub held : paperHeld (r .state) ≡ fed ours (paperHeld s) piece .kept
-  pub taken : r .taken ≡ fed ours (paperHeld s) piece .taken
-  pub short : length (fed ours (paperHeld s) piece .text) ≤ 50
-  pub stored : last ≡ sets out waiting (fed ours (paperHeld s) piece .text)
-  pub left : r .waiting ≡ waitingAfter (waiting + length (fed ours (paperHeld s) piece .text)) (length out)
-  pub room : r .waiting + 50 ≤ length out
+  pub fits : r .waiting ≤ length out
+  pub long : r .length ≡ t .length
+  pub over : r .over ≡ t .over
+  pub failed : r .failed ≡ t .failed
 
--- what is held after bytes, one by one
-abbrev pub afterByte : Work → Held → ℕ → Held
-afterByte w s b = cond (eqb b newline) (afterLine w s) (holding (s .supply) (s .line) (oneMore (s .begun) b))
+-- The first turn: the whole log is to be written, whatever the input is.
+pub record Opened (out : List ℕ) (r : Turn) : Type 0 where
+  pub whole : (input : List ℕ) → toCome r [] out input ≡ log ours input
+  pub long : r .length ≡ 0
+  pub taken : r .taken ≡ 0
+  pub fits : r .waiting ≤ length out
+  pub over : r .over ≡ false
+  pub failed : r .failed ≡ false
 
-unfoldable pub afterBytes : Work → Held → List ℕ → Held
-afterBytes w s [] = s
-afterBytes w s (b ∷ bs) = afterBytes w (afterByte w s b) bs
+-- The last line: what it prints waits behind what waited.
+pub record LastPut (t : Turn) (out last : List ℕ) (r : Turn) : Type 0 where
+  pub text : waits r last ≡ waits t out ++ finished ours (paperHeld (t .state))
+  pub fits : r .waiting ≤ length out
+  pub long : r .length ≡ t .length
+  pub taken : r .taken ≡ t .taken
+  pub over : r .over ≡ t .over
+  pub failed : r .failed ≡ t .failed
 
--- what waits after a text was put behind it: nothing, where another line would find no room and all was written
-abbrev pub waitsWith : ℕ → List ℕ → List ℕ
-waitsWith room text = cond (leb (length text + 50) room) text []
+-- Nothing waits any more.
+pub record Written (t r : Turn) : Type 0 where
+  pub none : r .waiting ≡ 0
+  pub state : r .state ≡ t .state
+  pub long : r .length ≡ t .length
+  pub taken : r .taken ≡ t .taken
+  pub over : r .over ≡ t .over
 
--- .. and after the lines of a piece, in at most so many calls
-unfoldable pub waitsIn : Work → ℕ → ℕ → Held → List ℕ → List ℕ → List ℕ
-waitsIn w room zero s waits p = waits
-waitsIn w room (suc k) s waits p =
-    waitsIn w room k (fed w s p .kept) (waitsWith room (waits ++ fed w s p .text)) (drop (fed w s p .taken) p)
+-- The piece of as many bytes as the read answered; none is the end of the input.
+pub record Taken (t : Turn) (got : ℤ) (room : ℕ) (r : Turn) : Type 0 where
+  pub long : r .length ≡ clamped got room
+  pub fits : r .length ≤ room
+  pub taken : r .taken ≡ 0
+  pub over : r .over ≡ eqb (r .length) 0
+  pub state : r .state ≡ t .state
+  pub waiting : r .waiting ≡ t .waiting
 
--- A piece: every byte of it was taken, once and in order, and its lines wait behind what waited.
-pub record PieceLogged (s : State) (piece : List ℕ) (waiting : ℕ) (out last : List ℕ) (r : Turn) : Type 0 where
-  pub held : paperHeld (r .state) ≡ afterBytes ours (paperHeld s) piece
-  pub taken : r .taken ≡ length piece
-  pub waits : take (r .waiting) last ≡ waitsIn ours (length out) (length piece) (paperHeld s) (take waiting out) piece
-  pub room : r .waiting + 50 ≤ length out
+-- the bytes that a read brought: none where the piece was not used up
+abbrev pub brought : Turn → Turn → List ℕ → List ℕ
+brought t r input = cond (ltb (t .taken) (t .length)) [] (take (r .length) input)
+
+pub record Got (t : Turn) (before input : List ℕ) (r : Turn) : Type 0 where
+  pub piece : left r (take (r .length) input) ≡ left t (take (t .length) before) ++ brought t r input
+  pub within : r .taken ≤ r .length
+  pub fits : r .length ≤ length input
+  pub over : r .over ≡ true → t .over ≡ false → r .length ≡ 0
+  pub state : r .state ≡ t .state
+  pub waiting : r .waiting ≡ t .waiting

@@ -1,16 +1,24 @@
-// Standard input's lines of lots and orders to standard output's log: a thin loop of read, feed and write.
+// Standard input's lines of lots and orders to standard output's log, turn by turn: what waits is written, the next
+// piece is read where the last one is used up, and its lines are put into the output.
 ghost use Prim.Native.Nat.{_+_, _<_, _≤_};
 ghost use mathlib.Core.Path.{_≡_};
 ghost use lib.ListN.{length};
-ghost use lib.Seq.{sets};
-ghost use Rattle.rules.specs.History.{ours};
-ghost use Rattle.rules.specs.Log.{header};
-ghost use Rattle.rules.specs.Feeding.{finished};
-ghost use Rattle.lotlines.specs.Paper.{paperHeld};
-ghost use Rattle.lotstream.specs.Turns.{PutAfter, waitingAfter, LineLogged, PieceLogged};
+ghost use Rattle.lotstream.specs.Turns.{PutAfter, Logs, Opened, Written, Taken, Got, LastPut};
+ghost use Rattle.lotstream.specs.Runs.{scene, Fits, Turned, Runs};
 use libc::STDIN_FILENO;
 use libc::STDOUT_FILENO;
 use lotlines::State;
+
+// What is held between turns, how many bytes the piece has and how many of them were taken, how many bytes of the
+// output wait, whether the input has ended, and whether a call failed, which was then said on standard error.
+pub struct Turn {
+    pub state: State,
+    pub length: usize,
+    pub taken: usize,
+    pub waiting: usize,
+    pub over: bool,
+    pub failed: bool,
+}
 
 // The bytes of a line are put after those that wait to be written.
 fn put(output: &mut [u8], waiting: usize, line: &[u8]) -> usize
@@ -25,117 +33,205 @@ fn put(output: &mut [u8], waiting: usize, line: &[u8]) -> usize
     waiting + i
 }
 
-// What waits is written where another line might find no room.
-fn make_room(output: &[u8], waiting: usize) -> usize
-    requires { ⌜ (waiting ≤ length (now output)) × (50 ≤ length (now output)) ⌝ }
-    ensures { λ r. ⌜ (r ≡ waitingAfter waiting (length (now (output .entry))))
-        × (r + 50 ≤ length (now (output .entry))) ⌝ }
-{
-    if waiting + 50 <= output.len() {
-        return waiting;
-    }
-    io::write_all(STDOUT_FILENO, &output[..waiting]);
-    0
-}
-
-// What is held between turns, how much of the piece was taken, and how much of the output waits.
-struct Turn {
-    state: State,
-    taken: usize,
-    waiting: usize,
-}
-
 // One line.
-fn log_line(state: State, piece: &[u8], output: &mut [u8], waiting: usize) -> Turn
-    requires { ⌜ (0 < length (now piece)) × (waiting + 50 ≤ length (now output)) ⌝ }
-    ensures { λ r. ⌜ LineLogged state (now (piece .entry)) waiting (now (output .entry)) (now (output .exit)) r ⌝ }
+fn log_line(turn: Turn, piece: &[u8], output: &mut [u8]) -> Turn
+    requires { ⌜ (turn .taken < length (now piece)) × (turn .waiting + 50 ≤ length (now output)) ⌝ }
+    ensures { λ r. ⌜ Logs turn (now (piece .entry)) (now (output .entry)) (now (output .exit)) r
+        × (turn .taken < r .taken) ⌝ }
 {
     let mut line = [0u8; 50];
-    let fed = lotlines::feed(state, piece, &mut line);
+    let held = turn.state;
+    let at = turn.taken;
+    let fed = lotlines::feed(held, &piece[at..], &mut line);
     let next = fed.state;
     let written = fed.written;
-    let filled = put(output, waiting, &line[..written]);
-    let left = make_room(output, filled);
+    let waiting = put(output, turn.waiting, &line[..written]);
+    let taken = at + fed.taken;
     Turn {
         state: next,
-        taken: fed.taken,
-        waiting: left,
+        length: turn.length,
+        taken,
+        waiting,
+        over: turn.over,
+        failed: turn.failed,
     }
 }
 
-// The lines of one piece: every byte of it, once and in order.
-fn log_piece(state: State, piece: &[u8], output: &mut [u8], waiting: usize) -> Turn
-    requires { ⌜ waiting + 50 ≤ length (now output) ⌝ }
-    ensures { λ r. ⌜ PieceLogged state (now (piece .entry)) waiting (now (output .entry)) (now (output .exit)) r ⌝ }
+// The lines of a piece, until it is used up or another line might find no room: every byte once and in order.
+fn log_lines(turn: Turn, piece: &[u8], output: &mut [u8]) -> Turn
+    requires { ⌜ (turn .taken ≤ length (now piece)) × (turn .waiting ≤ length (now output)) ⌝ }
+    ensures { λ r. ⌜ Logs turn (now (piece .entry)) (now (output .entry)) (now (output .exit)) r
+        × (r .waiting + 50 ≤ length (now (output .entry)) → r .taken ≡ length (now (piece .entry))) ⌝ }
 {
-    let mut held = state;
-    let mut left = waiting;
-    let mut at: usize = 0;
-    while at < piece.len() {
-        let done = log_line(held, &piece[at..], output, left);
-        let next = done.state;
-        held = next;
-        left = done.waiting;
-        at += done.taken;
+    let mut done = turn;
+    while done.taken < piece.len() {
+        if output.len() < done.waiting + 50 {
+            return done;
+        }
+        done = log_line(done, piece, output);
     }
-    Turn {
-        state: held,
-        taken: at,
-        waiting: left,
-    }
-}
-
-// One read, and its lines. Nothing is taken at the end of the input, or where a read fails.
-fn read_piece(state: State, input: &mut [u8], output: &mut [u8], waiting: usize) -> Turn
-    requires { ⌜ waiting + 50 ≤ length (now output) ⌝ }
-    ensures { λ r. ⌜ r .waiting + 50 ≤ length (now (output .entry)) ⌝ }
-{
-    let got = libc::read(STDIN_FILENO, input);
-    let n = io::count(got, input);
-    log_piece(state, &input[..n], output, waiting)
+    done
 }
 
 // The header is put first.
-fn open_log(output: &mut [u8]) -> usize
+fn open_log(output: &mut [u8]) -> Turn
     requires { ⌜ 100 ≤ length (now output) ⌝ }
-    ensures { λ r. ⌜ PutAfter 0 header (now (output .entry)) (now (output .exit)) r
-        × (r + 50 ≤ length (now (output .entry))) ⌝ }
+    ensures { λ r. ⌜ Opened (now (output .exit)) r ⌝ }
 {
     let mut line = [0u8; 50];
     let written = lotlines::header(&mut line);
-    put(output, 0, &line[..written])
+    let filled = put(output, 0, &line[..written]);
+    Turn {
+        state: lotlines::start(),
+        length: 0,
+        taken: 0,
+        waiting: filled,
+        over: false,
+        failed: false,
+    }
 }
 
-// The last line may lack its newline; then all that waits is written.
-fn close_log(state: State, output: &mut [u8], waiting: usize)
-    requires { ⌜ waiting + 50 ≤ length (now output) ⌝ }
-    ensures { λ _. ⌜ now (output .exit) ≡ sets (now (output .entry)) waiting (finished ours (paperHeld state)) ⌝ }
+// The last line may lack its newline.
+fn put_last(turn: Turn, output: &mut [u8]) -> Turn
+    requires { ⌜ turn .waiting + 50 ≤ length (now output) ⌝ }
+    ensures { λ r. ⌜ LastPut turn (now (output .entry)) (now (output .exit)) r ⌝ }
 {
     let mut line = [0u8; 50];
-    let written = lotlines::finish(state, &mut line);
-    let filled = put(output, waiting, &line[..written]);
-    io::write_all(STDOUT_FILENO, &output[..filled]);
+    let held = turn.state;
+    let written = lotlines::finish(held, &mut line);
+    let filled = put(output, turn.waiting, &line[..written]);
+    Turn {
+        state: held,
+        length: turn.length,
+        taken: turn.taken,
+        waiting: filled,
+        over: turn.over,
+        failed: turn.failed,
+    }
+}
+
+// How many bytes were to be written, and whether they were.
+struct Sent {
+    bytes: usize,
+    done: bool,
+}
+
+// The one call that writes.
+fn send(bytes: &[u8]) -> Sent
+    ensures { λ r. ⌜ r .bytes ≡ length (now (bytes .entry)) ⌝ }
+{
+    let done = io::write_all(STDOUT_FILENO, bytes);
+    if !done {
+        os::fail(b"lotlog: the log cannot be written");
+    }
+    Sent {
+        bytes: bytes.len(),
+        done,
+    }
+}
+
+// All that waits is written.
+fn write_waiting(turn: Turn, output: &[u8]) -> Turn
+    requires { ⌜ turn .waiting ≤ length (now output) ⌝ }
+    ensures { λ r. ⌜ Written turn r ⌝ }
+{
+    let waiting = turn.waiting;
+    let sent = send(&output[..waiting]);
+    let held = turn.state;
+    let left = waiting - sent.bytes;
+    Turn {
+        state: held,
+        length: turn.length,
+        taken: turn.taken,
+        waiting: left,
+        over: turn.over,
+        failed: !sent.done,
+    }
+}
+
+// What a read answers: the next piece, the end of the input, or that it failed.
+fn take_piece(turn: Turn, got: isize, input: &[u8]) -> Turn
+    ensures { λ r. ⌜ Taken turn got (length (now (input .entry))) r ⌝ }
+{
+    let held = turn.state;
+    let n = io::count(got, input);
+    Turn {
+        state: held,
+        length: n,
+        taken: 0,
+        waiting: turn.waiting,
+        over: n == 0,
+        failed: got < 0,
+    }
+}
+
+// The one call that reads, where the piece is used up.
+fn next_piece(turn: Turn, input: &mut [u8]) -> Turn
+    requires { ⌜ (turn .taken ≤ turn .length) × (turn .length ≤ length (now input)) ⌝ }
+    ensures { λ r. ⌜ Got turn (now (input .entry)) (now (input .exit)) r ⌝ }
+{
+    if turn.taken < turn.length {
+        return turn;
+    }
+    let got = libc::read(STDIN_FILENO, input);
+    if got < 0 {
+        os::fail(b"lotlog: the input cannot be read");
+    }
+    take_piece(turn, got, input)
+}
+
+// A turn: what waits is written before more is read, and nothing is read after the end or after a failure.
+fn next_turn(turn: Turn, input: &mut [u8], output: &mut [u8]) -> Turn
+    requires { ⌜ Fits (scene turn (now input) (now output)) ⌝ }
+    ensures { λ r. ⌜ Turned (scene turn (now (input .entry)) (now (output .entry)))
+        (scene r (now (input .exit)) (now (output .exit))) ⌝ }
+{
+    let sent = write_waiting(turn, output);
+    if sent.failed {
+        return sent;
+    }
+    if sent.over {
+        return sent;
+    }
+    let got = next_piece(sent, input);
+    if got.failed {
+        return got;
+    }
+    if got.over {
+        return put_last(got, output);
+    }
+    let piece = got.length;
+    log_lines(got, &input[..piece], output)
 }
 
 // A proved loop has to end, and nothing says that an input does: the turns count down from a number that no run uses
-// up. The lent memory is only worked in. An output of under 100 bytes has no room, and nothing is read.
-pub fn run(input: &mut [u8], output: &mut [u8]) {
+// up. The lent memory is only worked in. An output of under 100 bytes has no room, and nothing is read or written.
+pub fn run(input: &mut [u8], output: &mut [u8]) -> Turn
+    ensures { λ r. ⌜ Runs (now (input .entry)) (now (output .entry)) (now (input .exit)) (now (output .exit)) r ⌝ }
+{
     if output.len() < 100 {
-        return;
+        return Turn {
+            state: lotlines::start(),
+            length: 0,
+            taken: 0,
+            waiting: 0,
+            over: false,
+            failed: true,
+        };
     }
-    let mut held = lotlines::start();
-    let mut left = open_log(output);
+    let mut turn = open_log(output);
     let mut turns = u64::MAX;
     while turns > 0 {
-        let done = read_piece(held, input, output, left);
-        let next = done.state;
-        held = next;
-        left = done.waiting;
-        if done.taken == 0 {
-            turns = 0;
-        } else {
-            turns -= 1;
+        turn = next_turn(turn, input, output);
+        if turn.failed {
+            return turn;
         }
+        if turn.over {
+            if turn.waiting == 0 {
+                return turn;
+            }
+        }
+        turns -= 1;
     }
-    close_log(held, output, left);
+    turn
 }

@@ -1,16 +1,15 @@
 -- `lotstream::log_line` meets its contract.
 use native.Mathlib.Omega.{arith}
 use mathlib.Core.Path.{refl, sym}
-use Rattle.lotstream.proofs.Room.{within-line, part-line, line-text, put-as}
+use borrow.Rule.Slice.PartAt.{part-to-end}
+use lib.ListN.{take}
 use Rattle.rules.specs.History.{ours}
-use Rattle.rules.proofs.Feeding.{some-taken, taken-within}
 use Rattle.lotlines.specs.Paper.{paperHeld}
+use Rattle.lotstream.proofs.Putting.{within-line, part-line, put-line}
+use Rattle.lotstream.proofs.Onwards.{line-same, line-taken}
 use borrow.Author.Needs.{needs}
 use Rattle.lotstream.proofs.log_line.Statement.{statement}
 use Rattle.lotstream.proofs.log_line.Tie as tie
-
-feed-requires : tie.Need-feed-requires
-feed-requires c κs = search needs
 
 array-share-prefix-line : tie.Need-array-share-prefix-line
 array-share-prefix-line c = within-line (c .before .before .feed .ensures .shown) refl
@@ -20,53 +19,57 @@ slice-aggregate-put c = sym (part-line (c .before .before .before .feed .ensures
 
 put-requires : tie.Need-put-requires
 put-requires c κs =
-    let shown = (c .before .before .before .feed .ensures .shown) in
-    omega (arith, shown .fits, part-line shown refl, c .before .before .before .before .before .before .before .pre .1)
-
-make-room-requires : tie.Need-make-room-requires
-make-room-requires c κs =
-    let shown = (c .before .before .before .before .before .before .before .feed .ensures .shown) in
-    let kept = c .before .before .before .put .kept .0 in
+    let shown = c .before .before .before .feed .ensures .shown in
     omega (
       arith,
-      kept,
       shown .fits,
       part-line shown refl,
-      c .before .before .before .put .ensures .next,
-      c .before .before
-          .before .before .before .before .before .before .before .before .before .pre .1,
+      c .before .before .before .before .before .before .before .before .before .pre .1,
     )
 
-same-length : tie.Need-same-length
-same-length c = search needs
+add-taken : tie.Need-add-taken
+add-taken c =
+    let fed = c .before .before .before .before .before .before .before in
+    let start = fed .before .before .before .before .before .before in
+    let piece = start .args .piece .now in
+    let at = start .args .turn .taken in
+    let held = paperHeld (start .args .turn .state) in
+    let taken = line-taken ours held piece _ at (part-to-end piece at) (start .pre .0) in
+    omega (arith, fed .feed .ensures .taken, taken .1)
 
 returns : tie.Need-returns
 returns c =
-    let start = c .before .before .before .before .before .before .before .before .before .before .before .before in
-    let fed = c .before .before .before .before .before .before .before .before .feed .ensures in
-    let some = some-taken ours (paperHeld (start .args .state)) (start .args .piece .now) (start .pre .0) in
-    let within = taken-within ours (paperHeld (start .args .state)) (start .args .piece .now) in
-    let kept = c .before .before .before .before .put .kept .0 in
-    let put = put-as (line-text (fed .shown) refl) (c .before .before .before .before .put .ensures) in
-    record {
-      some = omega (arith, fed .taken, some);
-      within = omega (arith, fed .taken, within);
-      held = fed .held;
-      taken = fed .taken;
-      short = omega (arith, fed .shown .fits, fed .shown .next);
-      stored = put .stored;
-      left = rw (← put .next, ← kept) (c .make-room .ensures .0);
-      room = omega (arith, kept, c .make-room .ensures .1);
-    }
+    let after = c .before .before .before .before .before .before .before in
+    let start = after .before .before .before .before .before .before in
+    let fed = after .feed .ensures in
+    let piece = start .args .piece .now in
+    let at = start .args .turn .taken in
+    let part = part-to-end piece at in
+    let held = paperHeld (start .args .turn .state) in
+    let taken = line-taken ours held piece _ at part (start .pre .0) in
+    let put = put-line (fed .shown) refl (start .pre .1) (c .before .before .before .put .ensures) in (
+      record {
+        same =
+            line-same ours held _ piece _ (take (start .args .turn .waiting) (start .args .output .now)) _ at _ part
+            (fed .held)
+            (fed .taken)
+            (put .0);
+        within = omega (arith, fed .taken, taken .1);
+        fits = put .1;
+        long = refl;
+        over = refl;
+        failed = refl;
+      },
+      omega (arith, fed .taken, taken .0),
+    )
 
 pub log-line-spec : {M : Type 1} → statement M
 log-line-spec =
     tie.close
-    (tie.spec
-    feed-requires
+    (tie.spec (λ c. search needs) (λ c. search needs) (λ c. search needs) (λ c κs. search needs)
     array-share-prefix-line
     slice-aggregate-put
     put-requires
-    make-room-requires
-    same-length
+    add-taken
+    (λ c. search needs)
     returns)

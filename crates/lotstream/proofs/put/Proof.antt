@@ -6,7 +6,7 @@ use borrow.Author.Needs.{needs}
 use lib.ListN.{length, drop}
 use lib.Seq.{sets}
 use Rattle.lotlines.proofs.Printing.{text-first, text-more}
-use Rattle.lotstream.proofs.Room.{put-done}
+use Rattle.lotstream.proofs.Putting.{put-done}
 use Rattle.lotstream.proofs.put.Statement.{statement}
 use Rattle.lotstream.proofs.put.Tie as tie
 

@@ -1,0 +1,110 @@
+-- The output for the bytes that are still to come: line by line, and from the start.
+-- Assumes nothing.
+use Prim.Native.Nat.{ℕ, _+_, _-_, _≤_, _<_}
+use native.Mathlib.Omega.{arith}
+use mathlib.Core.Path.{_≡_, refl, ap, sym, _∙_}
+use mathlib.Core.Bool.{Bool, true, false, cond}
+use mathlib.Core.List.{List, [], _∷_, _++_, append-nil, append-assoc}
+use lib.Dec.{eqb}
+use lib.ListN.{length, take, drop, take-append-drop, length-drop}
+use lib.Seq.{drop-drop}
+use Rattle.rules.specs.History.{Work}
+use Rattle.rules.specs.Log.{newline, header, log}
+use Rattle.rules.specs.Feeding.{Held, holding, oneMore, afterLine, starting, fed, tookIn, saidIn}
+use Rattle.rules.proofs.Feeding.{any-calls, some-taken, taken-within}
+use Rattle.lotstream.specs.Turns.{onwards, Logs}
+use Rattle.lotstream.specs.declared.Turn.{Turn}
+
+fed-onwards : (w : Work) (s : Held) (p q : List ℕ)
+    → onwards w s (take (fed w s p .taken) p ++ q) ≡ fed w s p .text ++ onwards w (fed w s p .kept) q
+unfolding fed onwards
+fed-onwards w s [] q = refl
+fed-onwards w s (b ∷ bs) q =
+    go (eqb b newline) refl (fed-onwards w (holding (s .supply) (s .line) (oneMore (s .begun) b)) bs q)
+  where
+    go : (t : Bool) → eqb b newline ≡ t
+        → onwards w (holding (s .supply) (s .line) (oneMore (s .begun) b))
+        (take (fed w (holding (s .supply) (s .line) (oneMore (s .begun) b)) bs .taken) bs ++ q)
+        ≡ fed w (holding (s .supply) (s .line) (oneMore (s .begun) b)) bs .text
+        ++ onwards w (fed w (holding (s .supply) (s .line) (oneMore (s .begun) b)) bs .kept) q
+        → onwards w s (take (fed w s (b ∷ bs) .taken) (b ∷ bs) ++ q)
+        ≡ fed w s (b ∷ bs) .text ++ onwards w (fed w s (b ∷ bs) .kept) q
+    go true e h = simp e
+    go false e h = simp e h
+
+-- a line, and then the rest of the piece and what comes after it
+pub line-onwards : (w : Work) (s : Held) (p more : List ℕ)
+    → fed w s p .text ++ onwards w (fed w s p .kept) (drop (fed w s p .taken) p ++ more) ≡ onwards w s (p ++ more)
+line-onwards w s p more =
+    sym (fed-onwards w s p (drop (fed w s p .taken) p ++ more))
+    ∙ ap (onwards w s)
+    (sym (append-assoc (take (fed w s p .taken) p) (drop (fed w s p .taken) p) more)
+    ∙ ap (λ (l : List ℕ). l ++ more) (take-append-drop (fed w s p .taken) p))
+
+-- .. where the piece is read from a place on, and the line's text waits
+pub line-same : (w : Work) (s t : Held) (piece part before then : List ℕ) (at taken : ℕ) → part ≡ drop at piece
+    → t ≡ fed w s part .kept → taken ≡ fed w s part .taken → then ≡ before ++ fed w s part .text → (more : List ℕ)
+    → then ++ onwards w t (drop (at + taken) piece ++ more) ≡ before ++ onwards w s (drop at piece ++ more)
+line-same w s t piece part before then at taken e h k x more =
+    rw (← drop-drop taken at piece, ← e, x, h, k)
+    (append-assoc before (fed w s part .text) (onwards w (fed w s part .kept) (drop (fed w s part .taken) part ++ more))
+    ∙ ap (λ (l : List ℕ). before ++ l) (line-onwards w s part more))
+
+pub line-taken : (w : Work) (s : Held) (piece part : List ℕ) (at : ℕ) → part ≡ drop at piece → at < length piece
+    → (0 < fed w s part .taken) × (at + fed w s part .taken ≤ length piece)
+line-taken w s piece part at e h =
+    let long : length part ≡ length piece - at = ap length e ∙ length-drop at piece in
+    (some-taken w s part (omega (arith, long)), omega (arith, long, taken-within w s part))
+
+said-onwards : (w : Work) (s : Held) (ps : List (List ℕ)) → saidIn w s ps ≡ onwards w s (tookIn w s ps)
+unfolding saidIn tookIn onwards
+said-onwards w s [] = refl
+said-onwards w s (p ∷ ps) =
+    ap (λ (l : List ℕ). fed w s p .text ++ l) (said-onwards w (fed w s p .kept) ps)
+    ∙ sym (fed-onwards w s p (tookIn w (fed w s p .kept) ps))
+
+-- a byte a call
+bytes : List ℕ → List (List ℕ)
+bytes [] = []
+bytes (b ∷ bs) = (b ∷ []) ∷ bytes bs
+
+took-bytes : (w : Work) (s : Held) (l : List ℕ) → tookIn w s (bytes l) ≡ l
+unfolding tookIn fed bytes
+took-bytes w s [] = refl
+took-bytes w s (b ∷ bs) = go (eqb b newline) refl (λ t. took-bytes w t bs)
+  where
+    go : (t : Bool) → eqb b newline ≡ t → ((q : Held) → tookIn w q (bytes bs) ≡ bs)
+        → tookIn w s (bytes (b ∷ bs)) ≡ b ∷ bs
+    go true e h = simp e (ap (λ (l : List ℕ). b ∷ l) (h (afterLine w s)))
+    go false e h =
+        simp e (ap (λ (l : List ℕ). b ∷ l) (h (holding (s .supply) (s .line) (oneMore (s .begun) b))))
+
+-- from the start: the whole log
+pub all-onwards : (w : Work) (input : List ℕ) → header ++ onwards w (starting w) input ≡ log w input
+all-onwards w input =
+    ap (λ (l : List ℕ). header ++ onwards w (starting w) l) (sym (took-bytes w (starting w) input))
+    ∙ ap (λ (l : List ℕ). header ++ l) (sym (said-onwards w (starting w) (bytes input)))
+    ∙ any-calls w (bytes input)
+    ∙ ap (log w) (took-bytes w (starting w) input)
+
+pub all-same : (w : Work) (s : Held) (waits : List ℕ) → s ≡ starting w → waits ≡ header → (input : List ℕ)
+    → waits ++ onwards w s input ≡ log w input
+all-same w s waits e h input = rw (e, h) (all-onwards w input)
+
+-- Lines of a piece, one after another.
+pub logs-none : (t : Turn) (piece out : List ℕ) → t .taken ≤ length piece → t .waiting ≤ length out
+    → Logs t piece out out t
+logs-none t piece out h g =
+    record { same = λ more. refl; within = h; fits = g; long = refl; over = refl; failed = refl }
+
+pub logs-then : {t r q : Turn} {piece out mid last : List ℕ} → Logs t piece out mid r → length mid ≡ length out
+    → Logs r piece mid last q → Logs t piece out last q
+logs-then a e b =
+    record {
+      same = λ more. b .same more ∙ a .same more;
+      within = b .within;
+      fits = omega (arith, b .fits, e);
+      long = b .long ∙ a .long;
+      over = b .over ∙ a .over;
+      failed = b .failed ∙ a .failed;
+    }
