@@ -133,18 +133,18 @@ pub fn judge_readings(
     ensures { λ r. ⌜ verdictAnswer r ≡ variablesSample upper (variablesPaper plan) limit (now (readings .entry)) ⌝ }
 {
     if !entry::variables_holds(plan) {
-        return VerdictAnswer::Refused(6, 0);
+        return VerdictAnswer::Refused(plans::NO_PLAN, 0);
     }
     let n = plan.n as u64;
     if readings.len() as u64 != 2 * n {
-        return VerdictAnswer::Refused(7, 0);
+        return VerdictAnswer::Refused(plans::WRONG_LENGTH, 0);
     }
     let sums = sum_up(readings);
     if !sums.sound {
-        return VerdictAnswer::Refused(9, 0);
+        return VerdictAnswer::Refused(plans::OUT_OF_RANGE, 0);
     }
     if !in_gauge(limit) {
-        return VerdictAnswer::Refused(9, 0);
+        return VerdictAnswer::Refused(plans::OUT_OF_RANGE, 0);
     }
     let accepted = accepts(upper, n, plan.k as u64, raised(limit), sums.t, sums.q);
     VerdictAnswer::Given(Verdict {
@@ -183,17 +183,17 @@ pub fn screen(readings: &[u8]) -> Shown
 {
     let len = readings.len();
     if len % 2 == 1 {
-        return Shown::Refused(7, 0);
+        return Shown::Refused(plans::WRONG_LENGTH, 0);
     }
     if len == 0 {
-        return Shown::Refused(7, 0);
+        return Shown::Refused(plans::WRONG_LENGTH, 0);
     }
     if 100 < len {
-        return Shown::Refused(7, 0);
+        return Shown::Refused(plans::WRONG_LENGTH, 0);
     }
     let sums = sum_up(readings);
     if !sums.sound {
-        return Shown::Refused(9, 0);
+        return Shown::Refused(plans::OUT_OF_RANGE, 0);
     }
     show((len / 2) as u64, sums.t, sums.q)
 }

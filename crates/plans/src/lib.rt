@@ -10,6 +10,38 @@ ghost use Rattle.rules.specs.Refusals.{refused};
 ghost use Rattle.plans.specs.Paper.{boxIn, rowPaper, arrowTo, askedPaper, planPaper, letterPaper};
 ghost use Rattle.plans.specs.Paper.{beside, itself, zeroPlan, plannedPaper};
 
+// The refusals of document 01 that a lot, its plan and its sample can meet.
+pub const UNKNOWN_FORM: u8 = 1;
+
+pub const LOT_TOO_SMALL: u8 = 2;
+
+pub const NO_SUCH_LEVEL: u8 = 3;
+
+pub const NO_SUCH_COLUMN: u8 = 4;
+
+pub const WHILE_STOPPED: u8 = 5;
+
+pub const NO_PLAN: u8 = 6;
+
+pub const WRONG_LENGTH: u8 = 7;
+
+pub const ILLEGAL_ITEM: u8 = 8;
+
+pub const OUT_OF_RANGE: u8 = 9;
+
+// Severities, as a lot is asked about.
+const NORMAL: u32 = 0;
+
+const REDUCED: u32 = 2;
+
+const STOPPED: u32 = 3;
+
+const LAST_LEVEL: u32 = 6;
+
+pub const LAST_COLUMN: u32 = 25;
+// Up to this column each item is 0 or 1.
+pub const LAST_OF_ITEMS: u32 = 15;
+
 // Table 1: the last size of each row but the last ..
 const UP_TO: [u32; 14] = [
     8,
@@ -139,10 +171,10 @@ pub fn letter(size: u32, level: u32) -> LetterAnswer
     ensures { λ r. ⌜ letterPaper r ≡ tableOneLetter size level ⌝ }
 {
     if size < 2 {
-        return LetterAnswer::Refused(2, 0);
+        return LetterAnswer::Refused(LOT_TOO_SMALL, 0);
     }
-    if 6 < level {
-        return LetterAnswer::Refused(3, 0);
+    if LAST_LEVEL < level {
+        return LetterAnswer::Refused(NO_SUCH_LEVEL, 0);
     }
     let row = row_of(size);
     let place = level as usize;
@@ -153,17 +185,17 @@ pub fn letter(size: u32, level: u32) -> LetterAnswer
 pub fn asked_letter(lot: Asked) -> LetterAnswer
     ensures { λ r. ⌜ letterPaper r ≡ askedLetter (askedPaper lot) ⌝ }
 {
-    if 3 < lot.severity {
-        return LetterAnswer::Refused(1, 0);
+    if STOPPED < lot.severity {
+        return LetterAnswer::Refused(UNKNOWN_FORM, 0);
     }
     match letter(lot.size, lot.level) {
         LetterAnswer::Refused(number, place) => LetterAnswer::Refused(number, place),
         LetterAnswer::Given(found) => {
-            if 25 < lot.column {
-                return LetterAnswer::Refused(4, 0);
+            if LAST_COLUMN < lot.column {
+                return LetterAnswer::Refused(NO_SUCH_COLUMN, 0);
             }
-            if lot.severity == 3 {
-                return LetterAnswer::Refused(5, 0);
+            if lot.severity == STOPPED {
+                return LetterAnswer::Refused(WHILE_STOPPED, 0);
             }
             LetterAnswer::Given(found)
         }
@@ -217,7 +249,7 @@ fn row_at(severity: u32, s: u64) -> Row
     requires { ⌜ (severity < 2) × (14 ≤ s) × (s < 27) ⌝ }
     ensures { λ r. ⌜ rowPaper r ≡ rowAt severity s ⌝ }
 {
-    if severity == 0 {
+    if severity == NORMAL {
         return normal_row(s);
     }
     tightened_row(s)
@@ -319,8 +351,8 @@ pub fn table_plan(lot: Asked) -> SinglePlanned
     match asked_letter(lot) {
         LetterAnswer::Refused(number, place) => unplanned(number, place),
         LetterAnswer::Given(first) => {
-            if lot.severity == 2 {
-                return unplanned(6, 0);
+            if lot.severity == REDUCED {
+                return unplanned(NO_PLAN, 0);
             }
             SinglePlanned {
                 answer: Outcome::Given,
@@ -343,7 +375,7 @@ fn tighter_column(column: u32) -> u32
 pub fn tighter_ac(letter: u8, column: u32) -> u16
     ensures { λ r. ⌜ r ≡ tighterAc letter column ⌝ }
 {
-    let cell = box_at(0, tighter_column(column), letter);
+    let cell = box_at(NORMAL, tighter_column(column), letter);
     if cell < DOWN {
         return cell as u16;
     }

@@ -29,7 +29,7 @@ fn ended_with(sample: &[u8], v: Verdict) -> VerdictAnswer
 {
     let end = 2 * (v.used as usize);
     if end < sample.len() {
-        return VerdictAnswer::Refused(7, 0);
+        return VerdictAnswer::Refused(plans::WRONG_LENGTH, 0);
     }
     VerdictAnswer::Given(v)
 }
@@ -78,7 +78,7 @@ pub fn sequential_sample(plan: SequentialPlan, sample: &[u8]) -> VerdictAnswer
     while i < have {
         let x = numbers::number(sample, i);
         if 1 < x {
-            return VerdictAnswer::Refused(8, 0);
+            return VerdictAnswer::Refused(plans::ILLEGAL_ITEM, 0);
         }
         d += x;
         i += 1;
@@ -96,7 +96,7 @@ pub fn sequential_sample(plan: SequentialPlan, sample: &[u8]) -> VerdictAnswer
             Decision::GoesOn => {}
         }
     }
-    VerdictAnswer::Refused(7, 0)
+    VerdictAnswer::Refused(plans::WRONG_LENGTH, 0)
 }
 
 // What taking items comes to: one is missing, one is over 1 where items are 0 or 1, or a total.
@@ -109,7 +109,7 @@ enum Taken {
 fn is_illegal(column: u32, item: u64) -> bool
     ensures { λ r. ⌜ r ≡ illegal column item ⌝ }
 {
-    if 15 < column {
+    if plans::LAST_OF_ITEMS < column {
         return false;
     }
     1 < item
@@ -144,16 +144,16 @@ fn take_items(column: u32, k: usize, total: u64, sample: &[u8], from: usize) -> 
 pub fn single_sample(column: u32, plan: SinglePlan, sample: &[u8]) -> VerdictAnswer
     ensures { λ r. ⌜ verdictAnswer r ≡ singleSample column (planPaper plan) (now (sample .entry)) ⌝ }
 {
-    if 25 < column {
-        return VerdictAnswer::Refused(4, 0);
+    if plans::LAST_COLUMN < column {
+        return VerdictAnswer::Refused(plans::NO_SUCH_COLUMN, 0);
     }
     let k = plan.n as usize;
     if sample.len() != 2 * k {
-        return VerdictAnswer::Refused(7, 0);
+        return VerdictAnswer::Refused(plans::WRONG_LENGTH, 0);
     }
     match take_items(column, k, 0, sample, 0) {
-        Taken::Missing => VerdictAnswer::Refused(7, 0),
-        Taken::Over => VerdictAnswer::Refused(8, 0),
+        Taken::Missing => VerdictAnswer::Refused(plans::WRONG_LENGTH, 0),
+        Taken::Over => VerdictAnswer::Refused(plans::ILLEGAL_ITEM, 0),
         Taken::Total(t) => VerdictAnswer::Given(Verdict {
             accepted: t <= plan.ac as u64,
             used: plan.n as u32,
@@ -163,6 +163,9 @@ pub fn single_sample(column: u32, plan: SinglePlan, sample: &[u8]) -> VerdictAns
         }),
     }
 }
+
+// As Ac it means no acceptance at that stage.
+const MARK: u64 = 65535;
 
 struct Stage {
     size: u16,
@@ -198,7 +201,7 @@ fn stage_decides(stage: Stage, total: u64) -> Decision
     ensures { λ r. ⌜ decisionPaper r ≡ stageDecides (stagePaper stage) total ⌝ }
 {
     let ac = stage.ac as u64;
-    if !(ac == 65535) & (total <= ac) {
+    if !(ac == MARK) & (total <= ac) {
         return Decision::Decides(true);
     }
     if stage.re as u64 <= total {
@@ -219,10 +222,10 @@ fn staged_walk(column: u32, plan: StagedPlan, sample: &[u8]) -> VerdictAnswer
         let size = stage.size as usize;
         match take_items(column, size, total, sample, used) {
             Taken::Missing => {
-                return VerdictAnswer::Refused(7, 0);
+                return VerdictAnswer::Refused(plans::WRONG_LENGTH, 0);
             }
             Taken::Over => {
-                return VerdictAnswer::Refused(8, 0);
+                return VerdictAnswer::Refused(plans::ILLEGAL_ITEM, 0);
             }
             Taken::Total(t) => {
                 total = t;
@@ -244,15 +247,15 @@ fn staged_walk(column: u32, plan: StagedPlan, sample: &[u8]) -> VerdictAnswer
         }
         i += 1;
     }
-    VerdictAnswer::Refused(7, 0)
+    VerdictAnswer::Refused(plans::WRONG_LENGTH, 0)
 }
 
 // 4, then 7 or 8 as the walk meets it, then the verdict; any plan has its own.
 pub fn staged_sample(column: u32, plan: StagedPlan, sample: &[u8]) -> VerdictAnswer
     ensures { λ r. ⌜ verdictAnswer r ≡ stagedSample column (stagedPaper plan) (now (sample .entry)) ⌝ }
 {
-    if 25 < column {
-        return VerdictAnswer::Refused(4, 0);
+    if plans::LAST_COLUMN < column {
+        return VerdictAnswer::Refused(plans::NO_SUCH_COLUMN, 0);
     }
     staged_walk(column, plan, sample)
 }
