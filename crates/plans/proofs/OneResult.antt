@@ -15,7 +15,8 @@ use Rattle.plans.specs.declared.Outcome.the-variants as outcomes
 use Rattle.plans.specs.declared.VerdictAnswer.{VerdictAnswer}
 use Rattle.plans.specs.declared.VerdictAnswer.the-variants as verdicts
 use Rattle.plans.specs.declared.SinglePlanned.{SinglePlanned}
-use Rattle.plans.specs.Paper.{planPaper, verdictPaper, letterPaper, verdictAnswer, Beside, outcomeOn, plannedPaper}
+use Rattle.plans.specs.Paper.{planPaper, verdictPaper, letterPaper, verdictAnswer, Beside, outcomeOn}
+use Rattle.plans.specs.Paper.{plannedPaper}
 
 pub letter-one : (a b : LetterAnswer) → letterPaper a ≡ letterPaper b → a ≡ b
 letter-one (letters.Refused n p) (letters.Refused m q) e = cc
@@ -64,4 +65,5 @@ unfolding plannedBack
 planned-one = read-back plannedPaper plannedBack back
   where
     back : (a : SinglePlanned) → plannedBack (plannedPaper a) ≡ a
-    back a = ap (λ (o : Outcome). record { answer = o; plan = a .plan }) (outcome-back (a .answer) (planPaper (a .plan)))
+    back a =
+        ap (λ (o : Outcome). record { answer = o; plan = a .plan }) (outcome-back (a .answer) (planPaper (a .plan)))

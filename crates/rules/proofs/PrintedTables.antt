@@ -1,6 +1,6 @@
--- Second readings of the tables: the row of every lot size in Table 1, and every box of the master tables by letter. And
--- what both columns of the master table share: along s no Ac falls, and at the same s the tightened Ac is at most the
--- normal one.
+-- Second readings of the tables: the row of every lot size in Table 1, and every box of the master tables by letter.
+-- And what both columns of the master table share: along s no Ac falls, and at the same s the tightened Ac is at most
+-- the normal one.
 -- Assumes nothing.
 use Prim.Native.Nat.{ℕ, zero, suc, _+_, _≤_, _<_}
 use mathlib.Core.Path.{_≡_, refl, ap, _∙_}

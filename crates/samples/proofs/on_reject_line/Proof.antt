@@ -16,5 +16,12 @@ add-result c =
 
 pub on-reject-line-spec : {M : Type 1} → statement M
 on-reject-line-spec =
-    tie.close (tie.spec (λ c. search needs) mul-line (λ c. search needs) (λ c. search needs) add-result (λ c. search needs)
+    tie.close
+    (tie.spec
+    (λ c. search needs)
+    mul-line
+    (λ c. search needs)
+    (λ c. search needs)
+    add-result
+    (λ c. search needs)
     (λ c. search needs))

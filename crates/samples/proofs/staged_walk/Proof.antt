@@ -33,7 +33,8 @@ take-items-requires c κs = omega arith
 
 -- the stage's size is the plan's
 sized : (c : tie.After-stage-at Inv-loop μ-loop)
-    → c .stage-at .result .size ≡ getD (c .before .before .before .before .before .args .plan .sizes) (c .before .before .loop .i) 0
+    → c .stage-at .result .size
+    ≡ getD (c .before .before .before .before .before .args .plan .sizes) (c .before .before .loop .i) 0
 sized c = ap (λ (s : Stage). s .size) (c .stage-at .ensures)
 
 returns : tie.Need-returns Inv-loop μ-loop
