@@ -5,31 +5,49 @@ use mathlib.Core.Path.{_≡_, refl, ap, sym, _∙_}
 use mathlib.Core.List.{List, _++_}
 use native.Mathlib.Omega.{arith}
 use borrow.Author.Tests.{lt-leb, le-leb}
-use lib.ListN.{length, getD, take, drop, set, replicate, take-append-drop}
+use lib.ListN.{length, getD, take, drop, set, replicate, length-set, take-append-drop}
 use lib.Seq.{drop-drop, drop-set-lt, getD-take}
 use Rattle.rules.specs.Book.{staged, every, seven}
 use Rattle.rules.specs.Layout.{entryOf}
 use Rattle.rules.proofs.HeldStaged.{every-length}
-use Rattle.rules.proofs.Steps.{fill-done}
-use Rattle.entry.specs.Paper.{noStages, stagedRead}
+use Rattle.rules.proofs.Steps.{fill-next, fill-done}
+use Rattle.entry.specs.Paper.{noStages, stagedRead, Filling}
 
--- what is not filled yet is 0
-pub rest-next : (l : List ℕ) (i x : ℕ) → i < 7 → drop i l ≡ replicate (7 - i) 0
-    → drop (i + 1) (set l i x) ≡ replicate (7 - (i + 1)) 0
-rest-next l i x h q =
-    let less : 7 - i ≡ suc (7 - (i + 1)) = omega arith in
-    drop-set-lt (i + 1) l i x (omega arith) ∙ sym (drop-drop 1 i l) ∙ ap (drop 1) q
-    ∙ ap (λ (n : ℕ). drop 1 (replicate n 0)) less
+-- the loop that fills them
+module _ {ws : List ℕ} {from step m : ℕ} where
+  pub filling-opens : Filling ws from step m (replicate 7 0) from 0
+  filling-opens =
+      let z : m - 0 ≡ m = omega arith in
+      record {
+        counted = omega arith;
+        seven = refl;
+        near = omega arith;
+        front = ap (λ (n : ℕ). every from step n ws) z;
+        rest = refl;
+      }
 
-pub filled : (ws l : List ℕ) (from p s m i : ℕ) → i ≡ m
-    → take i l ++ every p s (m - i) ws ≡ every from s m ws → drop i l ≡ replicate (7 - i) 0
-    → l ≡ seven (every from s m ws)
-filled ws l from p s m i h q r =
-    let xs = every from s m ws in
-    let n : 7 - i ≡ 7 - length xs = omega (arith, every-length from s m ws) in
-    let front : take i l ≡ xs = sym (fill-done p s m i ws l (omega arith)) ∙ q in
-    sym (take-append-drop i l) ∙ ap (λ (x : List ℕ). x ++ drop i l) front
-    ∙ ap (λ (x : List ℕ). xs ++ x) (r ∙ ap (λ (x : ℕ). replicate x 0) n)
+  module _ {out : List ℕ} {p i : ℕ} (f : Filling ws from step m out p i) where
+    pub filling-next : {x : ℕ} → m ≤ 7 → step ≤ 2 → i < m → x ≡ getD ws p 0
+        → Filling ws from step m (set out i x) (p + step) (i + 1)
+    filling-next {x} few two h q =
+        let less : 7 - i ≡ suc (7 - (i + 1)) = omega arith in
+        record {
+          counted = omega arith;
+          seven = simp length-set (f .seven);
+          near = omega (arith, f .near);
+          front = rw q (sym (fill-next p step m i ws out h (omega (arith, f .seven))) ∙ f .front);
+          rest =
+              drop-set-lt (i + 1) out i x (omega arith) ∙ sym (drop-drop 1 i out) ∙ ap (drop 1) (f .rest)
+              ∙ ap (λ (n : ℕ). drop 1 (replicate n 0)) less;
+        }
+
+    pub filling-done : m ≤ i → out ≡ seven (every from step m ws)
+    filling-done h =
+        let xs = every from step m ws in
+        let n : 7 - i ≡ 7 - length xs = omega (arith, f .counted, every-length from step m ws) in
+        let front : take i out ≡ xs = sym (fill-done p step m i ws out h) ∙ f .front in
+        sym (take-append-drop i out) ∙ ap (λ (x : List ℕ). x ++ drop i out) front
+        ∙ ap (λ (x : List ℕ). xs ++ x) (f .rest ∙ ap (λ (x : ℕ). replicate x 0) n)
 
 -- numbers of an entry are those of the stretch that it begins, where they lie within it
 pub every-taken : (p s n size : ℕ) (ws : List ℕ) → ((i : ℕ) → i < n → p + s * i < size)

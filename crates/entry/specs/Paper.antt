@@ -1,11 +1,12 @@
 -- Document 01's values for each case of the code's types. Definitions only.
-use Prim.Native.Nat.{ℕ}
+use Prim.Native.Nat.{ℕ, _+_, _*_, _-_, _≤_}
+use mathlib.Core.Path.{_≡_}
 use mathlib.Core.Bool.{Bool, cond}
-use mathlib.Core.List.{List, []}
+use mathlib.Core.List.{List, [], _++_}
 use lib.Dec.{leb}
-use lib.ListN.{getD}
+use lib.ListN.{length, getD, take, drop, replicate}
 use Rattle.rules.specs.Book as paper
-use Rattle.rules.specs.Book.{Kind, kindAt, sizeOf, keyOf, keyFor, rises, numbersFrom, seven, stagedOf}
+use Rattle.rules.specs.Book.{Kind, kindAt, sizeOf, keyOf, keyFor, rises, numbersFrom, every, seven, stagedOf}
 use Rattle.rules.specs.Staged as staged
 use Rattle.rules.specs.Sequential as sequential
 use Rattle.rules.specs.Variables as variables
@@ -56,3 +57,12 @@ noStages = record { stages = 0; sizes = seven []; acs = seven []; res = seven []
 
 abbrev pub stagedRead : List ℕ → staged.StagedPlan
 stagedRead e = cond (leb (getD e 3 0) 7) (stagedOf e) noStages
+
+-- The loop that fills seven places, the first m of them with every step-th number: i are filled, and the next stands
+-- at p.
+pub record Filling (ws : List ℕ) (from step m : ℕ) (out : List ℕ) (p i : ℕ) : Type 0 where
+  pub counted : i ≤ m
+  pub seven : length out ≡ 7
+  pub near : p ≤ from + 2 * i
+  pub front : take i out ++ every p step (m - i) ws ≡ every from step m ws
+  pub rest : drop i out ≡ replicate (7 - i) 0

@@ -1,7 +1,9 @@
 // One entry of a plan book, of each of the four kinds: its key, its numbers, and the plan that it holds.
 ghost use mathlib.Core.Path.{_≡_};
-ghost use Prim.Native.Nat.{_≤_, _<_};
-ghost use lib.ListN.{length};
+ghost use mathlib.Core.Bool.{_&&_};
+ghost use Prim.Native.Nat.{_+_, _≤_, _<_};
+ghost use lib.Dec.{eqb};
+ghost use lib.ListN.{length, getD};
 ghost use Rattle.rules.specs.Numbers.{numbersOf};
 ghost use Rattle.rules.specs.Book.{kindAt, right, keyOf, keyFalls, sameKey, couldHold, every, seven};
 ghost use Rattle.rules.specs.Book as paper;
@@ -174,6 +176,15 @@ pub fn walk_entry(kind: usize, before: &[u8], e: &[u8]) -> Walk
     }
 }
 
+// Are the numbers at place i and after it x and y?
+fn pair_is(e: &[u8], i: usize, x: u64, y: u64) -> bool
+    requires { ⌜ i ≤ 1 ⌝ }
+    ensures { λ r. ⌜ r
+        ≡ eqb (getD (numbersOf (now (e .entry))) i 0) x && eqb (getD (numbersOf (now (e .entry))) (i + 1) 0) y ⌝ }
+{
+    (numbers::number(e, i) == x) & (numbers::number(e, i + 1) == y)
+}
+
 // Is the entry that e begins with under the key?
 pub fn is_under(kind: usize, key: Key, e: &[u8]) -> bool
     ensures { λ r. ⌜ r ≡ sameKey (keyOf (kindAt kind) (numbersOf (now (e .entry)))) (keyPaper (kindAt kind) key) ⌝ }
@@ -181,13 +192,12 @@ pub fn is_under(kind: usize, key: Key, e: &[u8]) -> bool
     if numbers::count(e) < key_len(kind) {
         return false;
     }
-    let first = numbers::number(e, 0);
-    let second = numbers::number(e, 1);
+    let letter = key.letter as u64;
+    let column = key.column as u64;
     if kind == 0 {
-        return (first == key.letter as u64) & (second == key.column as u64);
+        return pair_is(e, 0, letter, column);
     }
-    let third = numbers::number(e, 2);
-    (first == key.severity as u64) & ((second == key.letter as u64) & (third == key.column as u64))
+    (numbers::number(e, 0) == key.severity as u64) & pair_is(e, 1, letter, column)
 }
 
 // The reduced single of the entry that e begins with.

@@ -45,12 +45,6 @@ add-at c =
     let q = sym (ap walkPaper (c .before .before .size .given .1)) ∙ c .before .before .before .before .entry-at .ensures in
     omega (arith, ends-near (l .at) (numbersOf s) (place-entry _ _ (drop (l .at) (numbersOf s))) (l .inv .within) q, numbers-low s)
 
-add-i : tie.Need-add-i Inv-loop μ-loop
-add-i c = omega arith
-
-loop-less : tie.Need-loop-less Inv-loop μ-loop
-loop-less c = omega arith
-
 loop-again : tie.Need-loop-again Inv-loop μ-loop
 loop-again c =
     let a = c .before .before .before .before .before .before .before .before .before .before .before .args in
@@ -92,8 +86,8 @@ check-section-spec =
     (λ c. search needs)
     first-under-requires
     add-at
-    add-i
-    loop-less
+    (λ c. omega arith)
+    (λ c. omega arith)
     loop-again
     (λ c. search needs)
     add-t15

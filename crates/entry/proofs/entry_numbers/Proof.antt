@@ -22,18 +22,6 @@ Inv-loop kind e after size whole i₀ i =
 abbrev μ-loop : tie.MeasureT-loop
 μ-loop kind e after size whole i₀ i = size - i
 
-key-len-requires : tie.Need-key-len-requires Inv-loop μ-loop
-key-len-requires c κs = search needs
-
-number16-requires : tie.Need-number16-requires Inv-loop μ-loop
-number16-requires c κs = search needs
-
-entry-size-requires : tie.Need-entry-size-requires Inv-loop μ-loop
-entry-size-requires c κs = search needs
-
-count-requires : tie.Need-count-requires Inv-loop μ-loop
-count-requires c κs = search needs
-
 loop-holds : tie.Need-loop-holds Inv-loop μ-loop
 loop-holds c =
     let a = c .before .before .before .before .before in
@@ -54,15 +42,6 @@ returns c =
     sym (l .inv .1
     ∙ from-short (kindAt (a .args .kind)) (numbersOf (now (a .args .e)))
     (c .before .before .before .before .entry-size .result) (l .i) (omega arith) (omega arith))
-
-right-at-requires : tie.Need-right-at-requires Inv-loop μ-loop
-right-at-requires c κs = omega arith
-
-add-i : tie.Need-add-i Inv-loop μ-loop
-add-i c = omega arith
-
-loop-less : tie.Need-loop-less Inv-loop μ-loop
-loop-less c = omega arith
 
 loop-again : tie.Need-loop-again Inv-loop μ-loop
 loop-again c =
@@ -99,15 +78,15 @@ entry-numbers-spec =
     (tie.spec
     Inv-loop
     μ-loop
-    key-len-requires
-    number16-requires
-    entry-size-requires
-    count-requires
+    (λ c κs. search needs)
+    (λ c κs. search needs)
+    (λ c κs. search needs)
+    (λ c κs. search needs)
     loop-holds
     returns
-    right-at-requires
-    add-i
-    loop-less
+    (λ c κs. omega arith)
+    (λ c. omega arith)
+    (λ c. omega arith)
     loop-again
     returns-2
     returns-3)

@@ -7,23 +7,11 @@ use Rattle.entry.proofs.AnyKind.{size-last}
 use Rattle.entry.proofs.entry_size.Statement.{statement}
 use Rattle.entry.proofs.entry_size.Tie as tie
 
-mul-result : tie.Need-mul-result
-mul-result c = search needs
-
-add-result : tie.Need-add-result
-add-result c = search needs
-
-returns : tie.Need-returns
-returns c = search needs
-
 returns-2 : tie.Need-returns-2
 returns-2 c = rw (c .match .keys2) (refl, omega arith)
-
-returns-3 : tie.Need-returns-3
-returns-3 c = search needs
 
 returns-4 : tie.Need-returns-4
 returns-4 c = size-last _ _ (c .match .rest)
 
 pub entry-size-spec : {M : Type 1} → statement M
-entry-size-spec = tie.close (tie.spec mul-result add-result returns returns-2 returns-3 returns-4)
+entry-size-spec = tie.close (tie.spec (λ c. search needs) (λ c. search needs) (λ c. search needs) returns-2 (λ c. search needs) returns-4)

@@ -5,8 +5,10 @@ use mathlib.Core.Path.{_≡_, sym, ap, _∙_}
 use mathlib.Core.Bool.{Bool, false, _&&_}
 use mathlib.Core.List.{List, [], _∷_}
 use native.Mathlib.Omega.{arith}
+use denote.Ref.{now}
 use lib.Dec.{eqb}
 use lib.ListN.{length, getD, take, drop, length-take, length-drop}
+use Rattle.rules.specs.Numbers.{numbersOf}
 use Rattle.rules.specs.Book.{kindAt, sameKey, keyOf}
 use Rattle.rules.proofs.Steps.{same-short, under-two, under-three}
 use Rattle.entry.specs.Paper.{keyPaper}
@@ -27,32 +29,33 @@ module _ (kind : ℕ) (key : Key) (ws : List ℕ) where
       let asked : List ℕ = key .severity ∷ key .letter ∷ key .column ∷ [] in
       sym (same-short (take n ws) (drop (3 - n) asked) (omega (arith, length-take n ws, length-drop (3 - n) asked)))
 
-  by-two : kindAt kind .key ≤ length ws → kind ≡ 0 → (a b : ℕ) → a ≡ getD ws 0 0 → b ≡ getD ws 1 0
-      → Under (eqb a (key .letter) && eqb b (key .column))
-  by-two whole e a b p q =
-      (rw (p, q)) ∙ sym (under-two (kindAt kind) _ (key .letter) (key .column) 0 ws (omega arith) (ap (λ (n : ℕ). kindAt n .key) e))
+  by-two : kindAt kind .key ≤ length ws → kind ≡ 0
+      → Under (eqb (getD ws 0 0) (key .letter) && eqb (getD ws 1 0) (key .column))
+  by-two whole e =
+      sym (under-two (kindAt kind) (key .severity) (key .letter) (key .column) 0 ws (omega arith)
+      (ap (λ (n : ℕ). kindAt n .key) e))
 
-  by-three : kindAt kind .key ≤ length ws → (kind ≡ 0 → ⊥) → (a b c : ℕ) → a ≡ getD ws 0 0 → b ≡ getD ws 1 0
-      → c ≡ getD ws 2 0 → Under (eqb a (key .severity) && (eqb b (key .letter) && eqb c (key .column)))
-  by-three whole e a b c p q r =
-      (rw (p, q, r))
-      ∙ sym (under-three (kindAt kind) (key .severity) (key .letter) (key .column) 0 ws (omega arith) (sym (key-three kind e)))
+  by-three : kindAt kind .key ≤ length ws → (kind ≡ 0 → ⊥)
+      → Under (eqb (getD ws 0 0) (key .severity)
+      && (eqb (getD ws 1 0) (key .letter) && eqb (getD ws 2 0) (key .column)))
+  by-three whole e =
+      sym (under-three (kindAt kind) (key .severity) (key .letter) (key .column) 0 ws (omega arith)
+      (sym (key-three kind e)))
 
 returns : tie.Need-returns
-returns c = let a = c .before .before .before .before .args in not-whole (a .kind) (a .key) _ (omega arith) (omega arith)
+returns c =
+    let a = c .before .before .before .before .args in not-whole (a .kind) (a .key) _ (omega arith) (omega arith)
 
 returns-2 : tie.Need-returns-2
 returns-2 c =
-    let a = c .before .before .before .before .before .before .before .before .before .args in
-    by-two (a .kind) (a .key) _ (omega arith) (c .before .before .if2 .taken) _ _
-    (c .before .before .before .before .number .ensures .0) (c .before .before .before .number2 .ensures .0)
+    let a = c .before .before .before .before .before .before .before .before .args in
+    c .pair-is .ensures ∙ by-two (a .kind) (a .key) (numbersOf (now (a .e))) (omega arith) (c .before .if2 .taken)
 
 returns-3 : tie.Need-returns-3
 returns-3 c =
-    let a = c .before .before .before .before .before .before .before .before .before .before .before .args in
-    by-three (a .kind) (a .key) _ (omega arith) (c .before .before .before .before .if2 .left) _ _ _
-    (c .before .before .before .before .before .before .number .ensures .0)
-    (c .before .before .before .before .before .number2 .ensures .0) (c .before .before .before .number3 .ensures .0)
+    let a = c .before .before .before .before .before .before .before .before .before .before .args in
+    rw (c .before .before .number .ensures .0, c .pair-is2 .ensures)
+    (by-three (a .kind) (a .key) (numbersOf (now (a .e))) (omega arith) (c .before .before .before .if2 .left))
 
 pub is-under-spec : {M : Type 1} → statement M
 is-under-spec =
@@ -61,13 +64,11 @@ is-under-spec =
     (λ c κs. search needs)
     (λ c κs. search needs)
     returns
-    (λ c κs. search needs)
-    (λ c κs. search needs)
     (λ c. search needs)
     (λ c. search needs)
+    (λ c κs. search needs)
     returns-2
     (λ c κs. search needs)
     (λ c. search needs)
-    (λ c. search needs)
-    (λ c. search needs)
+    (λ c κs. search needs)
     returns-3)

@@ -14,12 +14,9 @@ use Rattle.entry.proofs.key_falls.Tie as tie
 returns : tie.Need-returns
 returns c = sym (falls-none _ _ _ (omega arith))
 
-rises-after-requires : tie.Need-rises-after-requires
-rises-after-requires c κs = omega arith
-
 returns-2 : tie.Need-returns-2
 returns-2 c = ap not (c .rises-after .ensures) ∙ sym (falls-is _ _ _ (omega arith))
 
 pub key-falls-spec : {M : Type 1} → statement M
 key-falls-spec =
-    tie.close (tie.spec (λ c κs. search needs) (λ c κs. search needs) returns rises-after-requires returns-2)
+    tie.close (tie.spec (λ c κs. search needs) (λ c κs. search needs) returns (λ c κs. omega arith) returns-2)

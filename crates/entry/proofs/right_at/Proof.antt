@@ -11,15 +11,6 @@ use Rattle.rules.proofs.Steps.{right-by, wrong-by}
 use Rattle.entry.proofs.right_at.Statement.{statement}
 use Rattle.entry.proofs.right_at.Tie as tie
 
-number16-requires : tie.Need-number16-requires
-number16-requires c κs = search needs
-
-fits-requires : tie.Need-fits-requires
-fits-requires c κs = search needs
-
-keeps-rule-requires : tie.Need-keeps-rule-requires
-keeps-rule-requires c κs = search needs
-
 returns : tie.Need-returns
 returns c =
     let a = c .before .before .before .before .before in
@@ -45,4 +36,4 @@ returns-2 c =
 
 pub right-at-spec : {M : Type 1} → statement M
 right-at-spec =
-    tie.close (tie.spec number16-requires fits-requires keeps-rule-requires returns returns-2)
+    tie.close (tie.spec (λ c κs. search needs) (λ c κs. search needs) (λ c κs. search needs) returns returns-2)

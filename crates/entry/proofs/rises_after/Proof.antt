@@ -21,12 +21,6 @@ Inv-loop kind before e key have i₀ i =
 abbrev μ-loop : tie.MeasureT-loop
 μ-loop kind before e key have i₀ i = key - i
 
-key-len-requires : tie.Need-key-len-requires Inv-loop μ-loop
-key-len-requires c κs = search needs
-
-count-requires : tie.Need-count-requires Inv-loop μ-loop
-count-requires c κs = search needs
-
 loop-holds : tie.Need-loop-holds Inv-loop μ-loop
 loop-holds c = (search needs, refl)
 
@@ -37,12 +31,6 @@ returns c =
     sym (l .inv .1
     ∙ key-none (numbersOf (now (a .args .before))) (numbersOf (now (a .args .e))) (kindAt (a .args .kind) .key) (l .i)
     (a .pre) (omega arith) (omega arith))
-
-number-requires : tie.Need-number-requires Inv-loop μ-loop
-number-requires c κs = search needs
-
-number-requires-2 : tie.Need-number-requires-2 Inv-loop μ-loop
-number-requires-2 c κs = search needs
 
 returns-2 : tie.Need-returns-2 Inv-loop μ-loop
 returns-2 c =
@@ -59,12 +47,6 @@ returns-3 c =
     sym (l .inv .1
     ∙ key-more (numbersOf (now (a .args .before))) (numbersOf (now (a .args .e))) (kindAt (a .args .kind) .key) (l .i)
     (a .pre) (omega arith) (omega arith) (omega arith))
-
-add-i : tie.Need-add-i Inv-loop μ-loop
-add-i c = omega arith
-
-loop-less : tie.Need-loop-less Inv-loop μ-loop
-loop-less c = omega arith
 
 loop-again : tie.Need-loop-again Inv-loop μ-loop
 loop-again c =
@@ -90,15 +72,15 @@ rises-after-spec =
     (tie.spec
     Inv-loop
     μ-loop
-    key-len-requires
-    count-requires
+    (λ c κs. search needs)
+    (λ c κs. search needs)
     loop-holds
     returns
-    number-requires
-    number-requires-2
+    (λ c κs. search needs)
+    (λ c κs. search needs)
     returns-2
     returns-3
-    add-i
-    loop-less
+    (λ c. omega arith)
+    (λ c. omega arith)
     loop-again
     returns-4)

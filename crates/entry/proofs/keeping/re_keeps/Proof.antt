@@ -5,12 +5,9 @@ use borrow.Author.Needs.{needs}
 use Rattle.entry.proofs.keeping.re_keeps.Statement.{statement}
 use Rattle.entry.proofs.keeping.re_keeps.Tie as tie
 
-re-over-requires : tie.Need-re-over-requires
-re-over-requires c κs = search needs
-
 returns : tie.Need-returns
 unfolding reKeeps
 returns c = rw (c .re-over .ensures)
 
 pub re-keeps-spec : {M : Type 1} → statement M
-re-keeps-spec = tie.close (tie.spec re-over-requires returns)
+re-keeps-spec = tie.close (tie.spec (λ c κs. search needs) returns)

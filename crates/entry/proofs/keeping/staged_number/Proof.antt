@@ -6,28 +6,13 @@ use Rattle.rules.specs.Book.{stagedNumber}
 use Rattle.entry.proofs.keeping.staged_number.Statement.{statement}
 use Rattle.entry.proofs.keeping.staged_number.Tie as tie
 
-add-start : tie.Need-add-start
-add-start c = search needs
-
-size-keeps-requires : tie.Need-size-keeps-requires
-size-keeps-requires c κs = search needs
-
 returns : tie.Need-returns
 unfolding stagedNumber
-returns c = rw (lt-ltb _ _ (c .before .if1 .taken)) (c .size-keeps .ensures)
-
-add-last : tie.Need-add-last
-add-last c = search needs
-
-ac-keeps-requires : tie.Need-ac-keeps-requires
-ac-keeps-requires c κs = search needs
+returns c = rw (lt-ltb _ _ (c .if1 .taken))
 
 returns-2 : tie.Need-returns-2
 unfolding stagedNumber
 returns-2 c = rw (le-ltb _ _ (c .before .before .if1 .left), eq-eqb _ 0 (c .before .if2 .taken)) (c .ac-keeps .ensures)
-
-re-keeps-requires : tie.Need-re-keeps-requires
-re-keeps-requires c κs = search needs
 
 returns-3 : tie.Need-returns-3
 unfolding stagedNumber
@@ -37,11 +22,10 @@ pub staged-number-spec : {M : Type 1} → statement M
 staged-number-spec =
     tie.close
     (tie.spec
-    add-start
-    size-keeps-requires
+    (λ c. search needs)
     returns
-    add-last
-    ac-keeps-requires
+    (λ c. search needs)
+    (λ c κs. search needs)
     returns-2
-    re-keeps-requires
+    (λ c κs. search needs)
     returns-3)

@@ -14,24 +14,6 @@ returns c =
     let a = c .before .before in
     sym (staged-free (numbersOf (now (a .args .e))) (a .args .i) _ (a .pre) (c .if1 .taken))
 
-number16-requires : tie.Need-number16-requires
-number16-requires c κs = search needs
-
-sub-number16 : tie.Need-sub-number16
-sub-number16 c = search needs
-
-number16-requires-2 : tie.Need-number16-requires-2
-number16-requires-2 c κs = search needs
-
-sub-number16-2 : tie.Need-sub-number16-2
-sub-number16-2 c = search needs
-
-number16-requires-3 : tie.Need-number16-requires-3
-number16-requires-3 c κs = search needs
-
-staged-number-requires : tie.Need-staged-number-requires
-staged-number-requires c κs = search needs
-
 returns-2 : tie.Need-returns-2
 returns-2 c =
     let a = c .before .before .before .before .before .before in
@@ -49,10 +31,10 @@ staged-rule-spec =
     tie.close
     (tie.spec
     returns
-    number16-requires
-    sub-number16
-    number16-requires-2
-    sub-number16-2
-    number16-requires-3
-    staged-number-requires
+    (λ c κs. search needs)
+    (λ c. search needs)
+    (λ c κs. search needs)
+    (λ c. search needs)
+    (λ c κs. search needs)
+    (λ c κs. search needs)
     returns-2)
