@@ -1,9 +1,9 @@
 -- Document 01's values for each case of the code's types. Definitions only.
 use Prim.Native.Nat.{ℕ, _+_, _*_, _-_, _≤_}
 use mathlib.Core.Path.{_≡_}
-use mathlib.Core.Bool.{Bool, cond}
+use mathlib.Core.Bool.{Bool, cond, _&&_}
 use mathlib.Core.List.{List, [], _++_}
-use lib.Dec.{leb}
+use lib.Dec.{leb, ltb, eqb}
 use lib.ListN.{length, getD, take, drop, replicate}
 use Rattle.rules.specs.Book as paper
 use Rattle.rules.specs.Book.{Kind, kindAt, sizeOf, keyOf, keyFor, rises, numbersFrom, every, seven, stagedOf}
@@ -37,6 +37,10 @@ rangePaper r = record { low = r .0; high = r .1 }
 -- the numbers of a key in an entry of a kind
 abbrev pub keyPaper : Kind → Key → List ℕ
 keyPaper k key = keyFor k (key .severity) (key .letter) (key .column)
+
+-- two numbers of a stretch, from place i on
+abbrev pub pairIs : List ℕ → ℕ → ℕ → ℕ → Bool
+pairIs ws i x y = ltb (i + 1) (length ws) && (eqb (getD ws i 0) x && eqb (getD ws (i + 1) 0) y)
 
 abbrev pub walkPaper : Walk → paper.Walk
 walkPaper (Ends p) = paper.ends p

@@ -5,7 +5,7 @@ ghost use mathlib.Core.Bool.{cond};
 ghost use lib.Dec.{eqb, ltb};
 ghost use lib.ListN.{length, getD, take};
 ghost use Rattle.rules.specs.Numbers.{numbersOf};
-ghost use Rattle.rules.specs.Book.{kindAt, acKeeps, reKeeps, stagedNumber, stagedRule};
+ghost use Rattle.rules.specs.Book.{kindAt, within, _to_, acKeeps, reKeeps, stagedNumber, stagedRule};
 ghost use Rattle.rules.specs.Book.{atFits, sequentialRule};
 
 // The number at a place has 16 bits.
@@ -13,6 +13,13 @@ pub(crate) fn number16(e: &[u8], i: usize) -> u16
     ensures { λ r. ⌜ r ≡ getD (numbersOf (now (e .entry))) i 0 ⌝ }
 {
     numbers::number(e, i) as u16
+}
+
+// A stage has 1 to 2,000 items.
+fn size_keeps(size: u16) -> bool
+    ensures { λ r. ⌜ r ≡ within (1 to 2000) size ⌝ }
+{
+    (1 <= size) & (size <= 2000)
 }
 
 // An Ac that is a number does not fall; a mark stands only before numbers, and not at the last stage.
@@ -49,7 +56,7 @@ fn staged_number(i: usize, m: u16, two: u16, one: u16, x: u16) -> bool
     let count = m as usize;
     let start = 4 + count;
     if i < start {
-        return (1 <= x) & (x <= 2000);
+        return size_keeps(x);
     }
     let j = i - start;
     let stage = j / 2;

@@ -1,16 +1,14 @@
 // One entry of a plan book, of each of the four kinds: its key, its numbers, and the plan that it holds.
 ghost use mathlib.Core.Path.{_≡_};
-ghost use mathlib.Core.Bool.{_&&_};
-ghost use Prim.Native.Nat.{_+_, _≤_, _<_};
-ghost use lib.Dec.{eqb};
-ghost use lib.ListN.{length, getD};
+ghost use Prim.Native.Nat.{_≤_, _<_};
+ghost use lib.ListN.{length};
 ghost use Rattle.rules.specs.Numbers.{numbersOf};
 ghost use Rattle.rules.specs.Book.{kindAt, right, keyOf, keyFalls, sameKey, couldHold, every, seven};
 ghost use Rattle.rules.specs.Book as paper;
 ghost use Rattle.rules.specs.Book.{reducedSingles, staged, sequential, variables, reducedOf, sequentialOf, variablesOf};
 ghost use Rattle.rules.specs.Layout.{entryOf};
 ghost use Rattle.rules.specs.Entries.{variablesEntry};
-ghost use Rattle.entry.specs.Paper.{walkPaper, keyPaper, entryRead, risesAfter, stagedRead};
+ghost use Rattle.entry.specs.Paper.{walkPaper, keyPaper, pairIs, entryRead, risesAfter, stagedRead};
 ghost use Rattle.entry.specs.Paper.{reducedPaper, stagedPaper, sequentialPaper, variablesPaper};
 
 mod keeping;
@@ -176,22 +174,19 @@ pub fn walk_entry(kind: usize, before: &[u8], e: &[u8]) -> Walk
     }
 }
 
-// Are the numbers at place i and after it x and y?
+// Are there numbers at place i and after it, and are they x and y?
 fn pair_is(e: &[u8], i: usize, x: u64, y: u64) -> bool
     requires { ⌜ i ≤ 1 ⌝ }
-    ensures { λ r. ⌜ r
-        ≡ eqb (getD (numbersOf (now (e .entry))) i 0) x && eqb (getD (numbersOf (now (e .entry))) (i + 1) 0) y ⌝ }
+    ensures { λ r. ⌜ r ≡ pairIs (numbersOf (now (e .entry))) i x y ⌝ }
 {
-    (numbers::number(e, i) == x) & (numbers::number(e, i + 1) == y)
+    let next = i + 1;
+    (next < numbers::count(e)) & ((numbers::number(e, i) == x) & (numbers::number(e, next) == y))
 }
 
 // Is the entry that e begins with under the key?
 pub fn is_under(kind: usize, key: Key, e: &[u8]) -> bool
     ensures { λ r. ⌜ r ≡ sameKey (keyOf (kindAt kind) (numbersOf (now (e .entry)))) (keyPaper (kindAt kind) key) ⌝ }
 {
-    if numbers::count(e) < key_len(kind) {
-        return false;
-    }
     let letter = key.letter as u64;
     let column = key.column as u64;
     if kind == 0 {

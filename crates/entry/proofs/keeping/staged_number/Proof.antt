@@ -8,7 +8,7 @@ use Rattle.entry.proofs.keeping.staged_number.Tie as tie
 
 returns : tie.Need-returns
 unfolding stagedNumber
-returns c = rw (lt-ltb _ _ (c .if1 .taken))
+returns c = rw (lt-ltb _ _ (c .before .if1 .taken)) (c .size-keeps .ensures)
 
 returns-2 : tie.Need-returns-2
 unfolding stagedNumber
@@ -23,6 +23,7 @@ staged-number-spec =
     tie.close
     (tie.spec
     (λ c. search needs)
+    (λ c κs. search needs)
     returns
     (λ c. search needs)
     (λ c κs. search needs)
