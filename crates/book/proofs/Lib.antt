@@ -1,3 +1,3 @@
-pub mod Loops
+mod Loops
 pub mod OneResult
 pub mod PlaceLaws

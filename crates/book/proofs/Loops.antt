@@ -19,7 +19,7 @@ use Rattle.rules.proofs.Steps.{sections-done, sections-broken, sections-short, 
 use Rattle.entry.specs.Paper.{keyPaper}
 use Rattle.entry.specs.declared.Key.{Key}
 use Rattle.entry.proofs.AnyKind.{by-kind}
-use Rattle.book.specs.Places.{orElse, underFrom, placeIn, onward, atEnd, placeUnder, placeOf, heldAfter}
+use Rattle.book.specs.Places.{orElse, underFrom, sectionPlace, onward, atEnd, placeUnder, placeOf, heldPast}
 use Rattle.book.specs.Paper.{keyBetween, stretchPaper, seenOf, ReadTo, InSection, InBook}
 use Rattle.book.specs.declared.Stretch.{Stretch}
 use Rattle.book.specs.declared.Stretch.the-variants.{Ends, Broken, Short}
@@ -120,14 +120,14 @@ module _ {k : Kind} {key ws : List ℕ} where
               ∙ ap (λ (x : ℕ). orElse x (underFrom k key (n - (i + 1)) (at + size) ws)) (sym f);
         }
 
-    pub section-broken : {p : ℕ} → i < n → broken p ≡ here → ReadTo (section k ws) (placeIn k key ws) (Broken (at + p))
+    pub section-broken : {p : ℕ} → i < n → broken p ≡ here → ReadTo (section k ws) (sectionPlace k key ws) (Broken (at + p))
     section-broken {p} h q =
         read-broken (sym (s .reads ∙ entries-broken k n i at (keyBetween k prev at ws) ws p h q))
 
-    pub section-shorts : i < n → short ≡ here → ReadTo (section k ws) (placeIn k key ws) Short
+    pub section-shorts : i < n → short ≡ here → ReadTo (section k ws) (sectionPlace k key ws) Short
     section-shorts h q = read-short (sym (s .reads ∙ entries-short k n i at (keyBetween k prev at ws) ws h q))
 
-    pub section-done : n ≤ i → ReadTo (section k ws) (placeIn k key ws) (Ends at seen)
+    pub section-done : n ≤ i → ReadTo (section k ws) (sectionPlace k key ws) (Ends at seen)
     unfolding underFrom
     section-done h =
         let z : n - i ≡ 0 = omega arith in
@@ -159,7 +159,7 @@ module _ (k : Kind) (key ws : List ℕ) (some : 0 < length key) where
 
 -- in the section of a kind
 pub in-near : (kind severity letter column : ℕ) (ws : List ℕ)
-    → placeIn (kindAt kind) (keyFor (kindAt kind) severity letter column) ws ≤ length ws
+    → sectionPlace (kindAt kind) (keyFor (kindAt kind) severity letter column) ws ≤ length ws
 in-near kind severity letter column ws =
     under-near (kindAt kind) (keyFor (kindAt kind) severity letter column) ws some (getD ws 0 0) 1
   where
@@ -170,7 +170,7 @@ in-near kind severity letter column ws =
 -- the place under a key, in a section that is there and in one that is not
 module _ (j : ℕ) (key : Kind → List ℕ) (ws : List ℕ) where
   pub place-at : (p : ℕ) → j < length kinds → ends p ≡ sections (take j kinds) ws
-      → placeUnder j key ws ≡ onward p (placeIn (kindAt j) (key (kindAt j)) (drop p ws))
+      → placeUnder j key ws ≡ onward p (sectionPlace (kindAt j) (key (kindAt j)) (drop p ws))
   unfolding placeUnder
   place-at p h q = rw (lt-ltb j 4 h, ← q)
 
@@ -209,14 +209,14 @@ module _ {asked : ℕ} {key : Key} {ws : List ℕ} where
 
     -- in it
     own : kind ≡ asked → asked < length kinds
-        → onward at (placeIn (kindAt kind) (keyPaper (kindAt kind) key) (drop at ws)) ≡ placeOf asked key ws
+        → onward at (sectionPlace (kindAt kind) (keyPaper (kindAt kind) key) (drop at ws)) ≡ placeOf asked key ws
     own e m =
         let end = sections-done ks variables kind at ws (omega (arith, length-take asked kinds)) in
         rw e (sym (place-at asked (λ k. keyPaper k key) ws at m (sym (b .ahead (omega arith) m ∙ end))))
 
     pub book-next : {size seen now : ℕ} → kind < length kinds → ends size ≡ part
-        → seen ≡ placeIn (kindAt kind) (keyPaper (kindAt kind) key) (drop at ws)
-        → now ≡ heldAfter kind asked held at seen → InBook asked key ws (kind + 1) (at + size) now
+        → seen ≡ sectionPlace (kindAt kind) (keyPaper (kindAt kind) key) (drop at ws)
+        → now ≡ heldPast kind asked held at seen → InBook asked key ws (kind + 1) (at + size) now
     book-next {size} {seen} h q f g =
         record {
           counted = omega arith;

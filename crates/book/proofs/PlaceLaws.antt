@@ -20,7 +20,7 @@ use Rattle.rules.proofs.Answers.{refused-given, given-one}
 use Rattle.rules.proofs.LookUp.{found-held}
 use Rattle.rules.proofs.HeldPlans.{in-range}
 use Rattle.entry.specs.Paper.{stagedRead}
-use Rattle.book.specs.Places.{underFrom, placeIn, onward, atEnd, placeUnder, fromPlace, placeHeld}
+use Rattle.book.specs.Places.{underFrom, sectionPlace, onward, atEnd, placeUnder, fromPlace, placeHeld}
 use Rattle.book.specs.Paper.{wholePaper}
 use Rattle.book.specs.declared.Whole.{Whole}
 use Rattle.book.proofs.Loops.{in-near}
@@ -77,10 +77,10 @@ module _ (j severity letter column : ℕ) (book : List ℕ) (h : j < length kind
     where
       go : (w : Walk)
           → fromEnd w (λ p. seekIn k key (drop p ws))
-          ≡ foundAt k (atEnd w (λ p. onward p (placeIn k key (drop p ws)))) ws
+          ≡ foundAt k (atEnd w (λ p. onward p (sectionPlace k key (drop p ws)))) ws
       go (ends p) =
           seek-place k key (drop p ws) (getD (drop p ws) 0 0) 1 (omega arith)
-          ∙ sym (found-onward k p (placeIn k key (drop p ws)) ws)
+          ∙ sym (found-onward k p (sectionPlace k key (drop p ws)) ws)
       go (broken p) = refl
       go short = refl
 
@@ -92,7 +92,7 @@ module _ (j severity letter column : ℕ) (book : List ℕ) (h : j < length kind
       onward-near p zero l = omega arith
       onward-near p (suc s) l = rw (ne-eqb (suc s) 0 (omega arith)) (omega (arith, length-drop p ws))
 
-      go : (w : Walk) → atEnd w (λ p. onward p (placeIn k key (drop p ws))) ≤ length ws
+      go : (w : Walk) → atEnd w (λ p. onward p (sectionPlace k key (drop p ws))) ≤ length ws
       go (ends p) = onward-near p _ (in-near j severity letter column (drop p ws))
       go (broken p) = omega arith
       go short = omega arith

@@ -8,7 +8,7 @@ use Rattle.rules.specs.Book.{Kind, kinds, kindAt, keyOf, shift, section, sectio
 use Rattle.rules.specs.Book as paper
 use Rattle.entry.specs.Paper.{keyPaper}
 use Rattle.entry.specs.declared.Key.{Key}
-use Rattle.book.specs.Places.{orElse, underFrom, placeIn, atEnd, placeOf}
+use Rattle.book.specs.Places.{orElse, underFrom, sectionPlace, atEnd, placeOf}
 use Rattle.book.specs.declared.Stretch.{Stretch}
 use Rattle.book.specs.declared.Stretch.the-variants as stretch
 use Rattle.book.specs.declared.Whole.{Whole}
@@ -45,7 +45,7 @@ pub record ReadTo (reading : paper.Walk) (look : ℕ) (r : Stretch) : Type 0 whe
 -- of a section of a kind, and of the four sections, of which one is asked for
 abbrev pub SectionRead : ℕ → Key → List ℕ → Stretch → Type 0
 SectionRead kind key ws r =
-    ReadTo (section (kindAt kind) ws) (placeIn (kindAt kind) (keyPaper (kindAt kind) key) ws) r
+    ReadTo (section (kindAt kind) ws) (sectionPlace (kindAt kind) (keyPaper (kindAt kind) key) ws) r
 
 abbrev pub SectionsRead : ℕ → Key → List ℕ → Stretch → Type 0
 SectionsRead asked key ws r = ReadTo (sections kinds ws) (placeOf asked key ws) r
@@ -57,7 +57,7 @@ pub record InSection (k : Kind) (key ws : List ℕ) (n prev at seen i : ℕ) : T
   pub after : prev ≤ at
   pub within : at ≤ length ws
   pub reads : section k ws ≡ shift at (paper.entries k (n - i) (keyBetween k prev at ws) (drop at ws))
-  pub looks : placeIn k key ws ≡ orElse seen (underFrom k key (n - i) at ws)
+  pub looks : sectionPlace k key ws ≡ orElse seen (underFrom k key (n - i) at ws)
 
 -- The loop over the sections, before the one of a kind, which starts at a place.
 pub record InBook (asked : ℕ) (key : Key) (ws : List ℕ) (kind at held : ℕ) : Type 0 where

@@ -27,8 +27,8 @@ underFrom k key (suc n) at ws =
     cond (sameKey (keyOf k (drop at ws)) key) at (underFrom k key n (at + sizeOf k (drop at ws)) ws)
 
 -- in a section, after its count
-abbrev pub placeIn : Kind → List ℕ → List ℕ → ℕ
-placeIn k key ws = underFrom k key (getD ws 0 0) 1 ws
+abbrev pub sectionPlace : Kind → List ℕ → List ℕ → ℕ
+sectionPlace k key ws = underFrom k key (getD ws 0 0) 1 ws
 
 -- a place of a stretch that starts at a place
 abbrev pub onward : ℕ → ℕ → ℕ
@@ -44,14 +44,14 @@ atEnd short place = 0
 unfoldable pub placeUnder : ℕ → (Kind → List ℕ) → List ℕ → ℕ
 placeUnder j key ws =
     cond (ltb j (length kinds))
-    (atEnd (sections (take j kinds) ws) (λ p. onward p (placeIn (kindAt j) (key (kindAt j)) (drop p ws)))) 0
+    (atEnd (sections (take j kinds) ws) (λ p. onward p (sectionPlace (kindAt j) (key (kindAt j)) (drop p ws)))) 0
 
 abbrev pub placeOf : ℕ → Key → List ℕ → ℕ
 placeOf j key ws = placeUnder j (λ k. keyPaper k key) ws
 
 -- the place held, after a section of a kind that starts at a place
-abbrev pub heldAfter : ℕ → ℕ → ℕ → ℕ → ℕ → ℕ
-heldAfter kind asked held at seen = cond (eqb kind asked) (onward at seen) held
+abbrev pub heldPast : ℕ → ℕ → ℕ → ℕ → ℕ → ℕ
+heldPast kind asked held at seen = cond (eqb kind asked) (onward at seen) held
 
 -- "no book entry under the key"
 abbrev pub fromPlace : ℕ → Answer ℕ

@@ -8,7 +8,7 @@ ghost use Rattle.rules.specs.Refusals.{given};
 ghost use Rattle.rules.specs.Numbers.{numbersOf};
 ghost use Rattle.rules.specs.Book.{checkBook, onSound};
 ghost use Rattle.entry.specs.Paper.{walkPaper};
-ghost use Rattle.book.specs.Places.{orElse, underAt, heldAfter, placeOf, placeHeld};
+ghost use Rattle.book.specs.Places.{orElse, underAt, heldPast, placeOf, placeHeld};
 ghost use Rattle.book.specs.Paper.{entryAfter, SectionRead, SectionsRead, wholePaper, bookPaper, foundPaper};
 use entry::Key;
 use entry::Walk;
@@ -78,9 +78,9 @@ fn check_section(kind: usize, key: Key, part: &[u8]) -> Stretch
 }
 
 // The place of the entry that is asked for: in its own section, which starts at a place, the one seen there.
-fn held_after(kind: usize, asked: usize, held: usize, at: usize, seen: usize) -> usize
+fn held_past(kind: usize, asked: usize, held: usize, at: usize, seen: usize) -> usize
     requires { ⌜ at + seen < 10000000000000000000 ⌝ }
-    ensures { λ r. ⌜ r ≡ heldAfter kind asked held at seen ⌝ }
+    ensures { λ r. ⌜ r ≡ heldPast kind asked held at seen ⌝ }
 {
     if kind != asked {
         return held;
@@ -102,7 +102,7 @@ fn check_sections(asked: usize, key: Key, book: &[u8]) -> Stretch
         let from = 2 * at;
         match check_section(kind, key, &book[from..]) {
             Stretch::Ends(size, seen) => {
-                held = held_after(kind, asked, held, at, seen);
+                held = held_past(kind, asked, held, at, seen);
                 at += size;
                 kind += 1;
             }

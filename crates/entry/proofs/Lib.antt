@@ -1,3 +1,3 @@
 pub mod AnyKind
 pub mod OneResult
-pub mod Seven
+mod Seven

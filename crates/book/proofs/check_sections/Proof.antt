@@ -68,8 +68,8 @@ part-check-section-start : tie.Need-part-check-section-start Inv-loop μ-loop
 part-check-section-start c =
     omega (arith, c .before .loop .inv .within, numbers-low (now (c .before .before .before .args .book)))
 
-held-after-requires : tie.Need-held-after-requires Inv-loop μ-loop
-held-after-requires c κs = ends-bounded (c .before .before .before) _ _ (c .before .size .given .1) .1
+held-past-requires : tie.Need-held-past-requires Inv-loop μ-loop
+held-past-requires c κs = ends-bounded (c .before .before .before) _ _ (c .before .size .given .1) .1
 
 add-at : tie.Need-add-at Inv-loop μ-loop
 add-at c = omega (arith, ends-bounded (c .before .before .before .before) _ _ (c .before .before .size .given .1) .0)
@@ -78,7 +78,7 @@ loop-again : tie.Need-loop-again Inv-loop μ-loop
 loop-again c =
     let q = ends-of (read (c .before .before .before .before)) (c .before .before .size .given .1) in
     book-next (c .before .before .before .before .before .before .before .loop .inv) (omega arith) (q .0) (q .1)
-    (c .held-after .ensures)
+    (c .held-past .ensures)
 
 add-t17 : tie.Need-add-t17 Inv-loop μ-loop
 add-t17 c =
@@ -112,7 +112,7 @@ check-sections-spec =
     (λ c. search needs)
     (λ c κs. search needs)
     (λ c. search needs)
-    held-after-requires
+    held-past-requires
     add-at
     (λ c. omega arith)
     (λ c. omega arith)

@@ -1,9 +1,9 @@
--- `book::held_after` meets its contract.
+-- `book::held_past` meets its contract.
 -- Assumes nothing.
 use borrow.Author.Tests.{eq-eqb, ne-eqb}
 use borrow.Author.Needs.{needs}
-use Rattle.book.proofs.held_after.Statement.{statement}
-use Rattle.book.proofs.held_after.Tie as tie
+use Rattle.book.proofs.held_past.Statement.{statement}
+use Rattle.book.proofs.held_past.Tie as tie
 
 returns : tie.Need-returns
 returns c = rw (ne-eqb (c .before .args .kind) (c .before .args .asked) (c .if1 .taken))
@@ -18,5 +18,5 @@ returns-3 c =
     let a = c .before .before .args in
     rw (eq-eqb (a .kind) (a .asked) (c .before .if1 .left), ne-eqb (a .seen) 0 (c .if2 .left))
 
-pub held-after-spec : {M : Type 1} → statement M
-held-after-spec = tie.close (tie.spec returns returns-2 (λ c. search needs) returns-3)
+pub held-past-spec : {M : Type 1} → statement M
+held-past-spec = tie.close (tie.spec returns returns-2 (λ c. search needs) returns-3)
