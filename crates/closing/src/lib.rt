@@ -13,26 +13,19 @@ ghost use Rattle.severity.specs.Paper.{lotPaper, eventPaper, recordPaper};
 ghost use Rattle.closing.specs.Paper.{offeredPaper, judgedOn, stagedLot, entered, unplanned, closedOn};
 ghost use Rattle.closing.specs.Paper.{closedPaper, judgedBeside, closedBeside, planJudged, planClosed};
 use plans::Asked;
+use plans::ILLEGAL_ITEM;
+use plans::LAST_OF_ITEMS;
 use plans::Outcome;
 use plans::SinglePlan;
+use plans::UNKNOWN_FORM;
 use plans::Verdict;
 use plans::VerdictAnswer;
 use severity::Event;
 use severity::Lot;
+use severity::NORMAL;
 use severity::Origin;
 use severity::Record;
 use severity::Stepped;
-
-// The severity that keeps a score.
-const NORMAL: u8 = 0;
-
-// The refusals of this crate.
-const UNKNOWN_FORM: u8 = 1;
-
-const ILLEGAL_ITEM: u8 = 8;
-
-// The last column whose items are 0 or 1.
-const LAST_OF_ITEMS: u32 = 15;
 
 // A lot that is offered to be closed.
 pub struct Offered {

@@ -13,13 +13,13 @@ ghost use Rattle.severity.specs.Paper.{workPaper, lotPaper, eventPaper, 
 ghost use Rattle.severity.specs.Paper.{Closes};
 
 // The severities.
-const NORMAL: u8 = 0;
+pub const NORMAL: u8 = 0;
 
-const TIGHTENED: u8 = 1;
+pub const TIGHTENED: u8 = 1;
 
-const REDUCED: u8 = 2;
+pub const REDUCED: u8 = 2;
 
-const STOPPED: u8 = 3;
+pub const STOPPED: u8 = 3;
 
 // The refusals that an event can meet.
 const UNKNOWN_FORM: u8 = 1;
