@@ -8,7 +8,7 @@ use Rattle.rules.specs.Refusals.{Answer, refused, given, andThen}
 use Rattle.rules.specs.Verdict.{Judged}
 use Rattle.rules.specs.Verdict as paper
 use Rattle.rules.specs.Single.{Plan}
-use Rattle.rules.specs.Severity.{Event, Record, step, inRange}
+use Rattle.rules.specs.Severity.{Lot, Event, Record, step, inRange}
 use Rattle.rules.specs.Entries.{Asked, askedOn, plainPlan, Offered, Closed, eventFor, singleCounts, onRecord}
 use Rattle.rules.specs.Entries.{closedWith, totalOn, judgeTotal, closeTotal}
 use Rattle.plans.specs.declared.Outcome.{Outcome}
@@ -87,17 +87,18 @@ module _ {P : Type 0} (plan : P) where
         → closedOn a plan ≡ onRecord r (entered r e (judgedOn plan v))
     entered-on a h = sym (replanned-closed a) ∙ ap replanned h ∙ replanned-entered (not (inRange r)) (step r e)
 
--- a lot that was judged on a single plan is taken into its record
-module _ (x : Beside Plan (Closed Plan)) (r : Record) (o : Offered) (answer : VerdictAnswer) (plan : Plan) where
-  abbrev Taken : Answer (Closed Plan)
-  Taken = andThen (verdictOn answer plan) (λ j. onRecord r (closedWith r o (singleCounts r o) j))
+-- a lot that was judged is taken into its record, on whatever plan
+module _ {P : Type 0} (zeros : P) (counts : Judged P paper.Verdict → Lot) (x : Beside P (Closed P)) (r : Record)
+    (o : Offered) (answer : VerdictAnswer) (plan : P) where
+  abbrev Taken : Answer (Closed P)
+  Taken = andThen (verdictOn answer plan) (λ j. onRecord r (closedWith r o counts j))
 
   pub taken-given : (v : Verdict) (e : Event) (a : ClosedAnswer) → answer ≡ verdicts.Given v
-      → e ≡ eventFor o (singleCounts r o (judgedOn plan (verdictPaper v)))
+      → e ≡ eventFor o (counts (judgedOn plan (verdictPaper v)))
       → closedPaper a ≡ onRecord r (entered r e (unplanned (verdictPaper v)))
-      → x ≡ beside zeroPlan planClosed (closedOn a plan) → x ≡ beside zeroPlan planClosed Taken
+      → x ≡ beside zeros planClosed (closedOn a plan) → x ≡ beside zeros planClosed Taken
   taken-given v e a g stands h q =
-      rw g (q ∙ ap (beside zeroPlan planClosed) (rw stands at (entered-on plan r e (verdictPaper v) a h)))
+      rw g (q ∙ ap (beside zeros planClosed) (rw stands at (entered-on plan r e (verdictPaper v) a h)))
 
 -- a lot judged by its total
 module _ (x : Beside Plan (Judged Plan paper.Verdict)) (q : Asked) (total : ℕ) (o : Outcome) (plan : Plan)

@@ -1,5 +1,4 @@
-pub mod Judging
 pub mod OneResult
-pub mod Planning
-pub mod Staging
-pub mod Taking
+pub mod Sizes
+pub mod Supplies
+pub mod Verdicts

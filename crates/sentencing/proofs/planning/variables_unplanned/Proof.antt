@@ -1,0 +1,14 @@
+-- `sentencing::planning::variables_unplanned` meets its contract.
+-- Assumes nothing.
+use Rattle.sentencing.proofs.Verdicts.{unplanned-beside}
+use borrow.Author.Needs.{needs}
+use Rattle.sentencing.proofs.planning.variables_unplanned.Statement.{statement}
+use Rattle.sentencing.proofs.planning.variables_unplanned.Tie as tie
+
+returns : tie.Need-returns
+returns c = unplanned-beside (c .no-readings .ensures)
+
+pub variables-unplanned-spec : {M : Type 1} → statement M
+variables-unplanned-spec =
+    tie.close
+    (tie.spec (λ c κs. search needs) returns)

@@ -1,0 +1,95 @@
+// What next: a lot closed from its sample, with the next record; beside it the plan, all 0 beside a refusal.
+ghost use mathlib.Core.Path.{_≡_};
+ghost use Rattle.rules.specs.Refusals.{andThen};
+ghost use Rattle.rules.specs.Entries.{onRecord, closedWith, stagedCounts, closeSingle, closeStaged};
+ghost use Rattle.plans.specs.Paper.{beside, zeroPlan};
+ghost use Rattle.entry.specs.Paper.{stagedPaper, noStages};
+ghost use Rattle.severity.specs.Paper.{recordPaper};
+ghost use Rattle.closing.specs.Paper.{offeredPaper, closedOn, closedBeside, planClosed};
+ghost use Rattle.sentencing.specs.Paper.{stagedJudged, stagedClosed};
+use super::judging::StagedJudged;
+use super::judging::judge_single;
+use super::judging::judge_staged;
+use super::planning::first_refusal;
+use super::planning::no_stages;
+use closing::ClosedAnswer;
+use closing::Offered;
+use closing::SingleClosed;
+use entry::StagedPlan;
+use plans::VerdictAnswer;
+use severity::Record;
+
+// 1: "a record out of range"
+const OUT_OF_RANGE: u8 = 1;
+
+// A lot closed from a single sample.
+pub fn close_single(old: Record, lot: Offered, book: &[u8], sample: &[u8]) -> SingleClosed
+    ensures { λ r. ⌜ closedBeside r
+        ≡ beside zeroPlan planClosed
+        (closeSingle (recordPaper old) (offeredPaper lot) (now (book .entry)) (now (sample .entry))) ⌝ }
+{
+    if severity::in_range(old) {
+        let judged = judge_single(closing::asked_on(old, lot), book, sample);
+        return closing::take_single(old, lot, judged);
+    }
+    let first = first_refusal(book, OUT_OF_RANGE, 0);
+    closing::unclosed(first.number, first.place)
+}
+
+pub struct StagedClosed {
+    pub answer: ClosedAnswer,
+    pub plan: StagedPlan,
+}
+
+fn staged_closed(plan: StagedPlan, answer: ClosedAnswer) -> StagedClosed
+    ensures { λ r. ⌜ stagedClosed r ≡ beside noStages planClosed (closedOn answer (stagedPaper plan)) ⌝ }
+{
+    match answer {
+        ClosedAnswer::Refused(number, place) => StagedClosed {
+            answer: ClosedAnswer::Refused(number, place),
+            plan: no_stages(),
+        },
+        ClosedAnswer::Given(closed) => StagedClosed {
+            answer: ClosedAnswer::Given(closed),
+            plan,
+        },
+    }
+}
+
+// A lot that was judged on a staged plan is taken into its record.
+fn take_staged(old: Record, lot: Offered, judged: StagedJudged) -> StagedClosed
+    ensures { λ r. ⌜ stagedClosed r
+        ≡ beside noStages planClosed
+        (andThen (stagedJudged judged .answer)
+        (λ j. onRecord (recordPaper old)
+        (closedWith (recordPaper old) (offeredPaper lot) (stagedCounts (recordPaper old) (offeredPaper lot)) j))) ⌝ }
+{
+    let answer = judged.answer;
+    let plan = judged.plan;
+    match answer {
+        VerdictAnswer::Refused(number, place) => {
+            staged_closed(plan, ClosedAnswer::Refused(number, place))
+        }
+        VerdictAnswer::Given(verdict) => {
+            let event = closing::staged_event(old, lot, verdict);
+            staged_closed(plan, closing::enter(old, event, verdict))
+        }
+    }
+}
+
+// A lot closed from a staged sample.
+pub fn close_staged(old: Record, lot: Offered, book: &[u8], sample: &[u8]) -> StagedClosed
+    ensures { λ r. ⌜ stagedClosed r
+        ≡ beside noStages planClosed
+        (closeStaged (recordPaper old) (offeredPaper lot) (now (book .entry)) (now (sample .entry))) ⌝ }
+{
+    if severity::in_range(old) {
+        let judged = judge_staged(closing::asked_on(old, lot), book, sample);
+        return take_staged(old, lot, judged);
+    }
+    let first = first_refusal(book, OUT_OF_RANGE, 0);
+    staged_closed(
+        no_stages(),
+        ClosedAnswer::Refused(first.number, first.place),
+    )
+}

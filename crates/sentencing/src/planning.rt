@@ -1,0 +1,281 @@
+// Which plan a lot gets, of each kind.
+ghost use mathlib.Core.Path.{_≡_};
+ghost use Prim.Native.Nat.{_≤_, _<_};
+ghost use Rattle.rules.specs.Refusals.{refused};
+ghost use Rattle.rules.specs.Codes.{reduced};
+ghost use Rattle.rules.specs.Staged.{stagesOf, totalSize};
+ghost use Rattle.rules.specs.Book.{checkBook, onSound};
+ghost use Rattle.rules.specs.Entries.{singlePlan, stagedPlan, sequentialPlan, variablesPlan, lettered};
+ghost use Rattle.plans.specs.Paper.{askedPaper, beside, itself, zeroPlan, plannedPaper};
+ghost use Rattle.entry.specs.Paper.{stagedPaper, noStages, sequentialPaper, variablesPaper};
+ghost use Rattle.sentencing.specs.Paper.{refusalPaper, supplyPaper, placeFor, withoutLetter};
+ghost use Rattle.sentencing.specs.Paper.{zeroSequential, zeroVariables};
+ghost use Rattle.sentencing.specs.Paper.{stagedPlanned, sequentialPlanned, variablesPlanned};
+use book::BookAnswer;
+use book::Found;
+use entry::SequentialPlan;
+use entry::StagedPlan;
+use entry::VariablesPlan;
+use plans::Asked;
+use plans::LetterAnswer;
+use plans::Outcome;
+use plans::SinglePlan;
+use plans::SinglePlanned;
+
+// 6: "no book entry under the key, or a staged total, nt or variables n above the lot size"
+const NO_PLAN: u8 = 6;
+
+const UNDER_REDUCED: u32 = 2;
+
+pub(crate) struct Refusal {
+    pub(crate) number: u8,
+    pub(crate) place: usize,
+}
+
+// "12 first": the book's refusal before another.
+pub(crate) fn first_refusal(book: &[u8], number: u8, place: usize) -> Refusal
+    ensures { λ r. ⌜ refusalPaper r ≡ onSound (checkBook (now (book .entry))) (refused number place) ⌝ }
+{
+    match book::check_book(book) {
+        BookAnswer::Refused(first, byte) => Refusal {
+            number: first,
+            place: byte,
+        },
+        BookAnswer::Sound => Refusal { number, place },
+    }
+}
+
+// What a book supplies to a lot: the lot's Table 1 letter, and the place of the entry under its key.
+enum Supply {
+    Refused(u8, usize),
+    At(u8, usize),
+}
+
+// "A plan is looked up by severity (sections 2 to 4), Table 1 letter and column": one way for every kind.
+fn supplied(lot: Asked, kind: usize, book: &[u8]) -> Supply
+    ensures { λ r. ⌜ supplyPaper r ≡ placeFor kind (askedPaper lot) (now (book .entry)) ⌝ }
+{
+    match plans::asked_letter(lot) {
+        LetterAnswer::Refused(number, place) => {
+            let first = first_refusal(book, number, place);
+            Supply::Refused(first.number, first.place)
+        }
+        LetterAnswer::Given(letter) => match book::find(
+            kind,
+            lot.severity,
+            letter,
+            lot.column,
+            book,
+        ) {
+            Found::Refused(number, place) => Supply::Refused(number, place),
+            Found::At(place) => Supply::At(letter, place),
+        },
+    }
+}
+
+// "Reduced singles come from the plan book, by the Table 1 letter; a size at or above the lot is cut alike."
+fn reduced_plan(lot: Asked, book: &[u8]) -> SinglePlanned
+    requires { ⌜ lot .severity ≡ reduced ⌝ }
+    ensures { λ r. ⌜ plannedPaper r
+        ≡ beside zeroPlan itself (singlePlan (askedPaper lot) (now (book .entry))) ⌝ }
+{
+    match supplied(lot, entry::REDUCED, book) {
+        Supply::Refused(number, place) => plans::unplanned(number, place),
+        Supply::At(letter, place) => {
+            let from = 2 * place;
+            let held = entry::reduced_at(&book[from..]);
+            let n = plans::cut_to(lot.size, held.n);
+            let plan = SinglePlan {
+                letter,
+                n,
+                ac: held.ac,
+            };
+            SinglePlanned {
+                answer: Outcome::Given,
+                plan,
+            }
+        }
+    }
+}
+
+// The single plan of a lot.
+pub fn single_plan(lot: Asked, book: &[u8]) -> SinglePlanned
+    ensures { λ r. ⌜ plannedPaper r
+        ≡ beside zeroPlan itself (singlePlan (askedPaper lot) (now (book .entry))) ⌝ }
+{
+    if lot.severity == UNDER_REDUCED {
+        return reduced_plan(lot, book);
+    }
+    match book::check_book(book) {
+        BookAnswer::Refused(number, byte) => plans::unplanned(number, byte),
+        BookAnswer::Sound => plans::table_plan(lot),
+    }
+}
+
+// Is there a plan that only a book supplies; beside it the lot's Table 1 letter and the plan, all 0 beside a refusal.
+pub struct StagedPlanned {
+    pub answer: Outcome,
+    pub letter: u8,
+    pub plan: StagedPlan,
+}
+
+pub struct SequentialPlanned {
+    pub answer: Outcome,
+    pub letter: u8,
+    pub plan: SequentialPlan,
+}
+
+pub struct VariablesPlanned {
+    pub answer: Outcome,
+    pub letter: u8,
+    pub plan: VariablesPlan,
+}
+
+pub(crate) fn no_stages() -> StagedPlan
+    ensures { λ r. ⌜ stagedPaper r ≡ noStages ⌝ }
+{
+    StagedPlan {
+        stages: 0,
+        sizes: [0u16; 7],
+        acs: [0u16; 7],
+        res: [0u16; 7],
+    }
+}
+
+fn staged_unplanned(number: u8, place: usize) -> StagedPlanned
+    ensures { λ r. ⌜ stagedPlanned r ≡ beside (withoutLetter noStages) itself (refused number place) ⌝ }
+{
+    StagedPlanned {
+        answer: Outcome::Refused(number, place),
+        letter: 0,
+        plan: no_stages(),
+    }
+}
+
+fn wide(x: u16) -> u64
+    ensures { λ r. ⌜ (r ≡ x) × (r < 65536) ⌝ }
+{
+    x as u64
+}
+
+// The items of all stages.
+fn total_size(plan: StagedPlan) -> u64
+    requires { ⌜ plan .stages ≤ 7 ⌝ }
+    ensures { λ r. ⌜ r ≡ totalSize (stagesOf (stagedPaper plan)) ⌝ }
+{
+    let stages = plan.stages as usize;
+    let mut i = 0;
+    let mut total = 0;
+    while i < stages {
+        total += wide(plan.sizes[i]);
+        i += 1;
+    }
+    total
+}
+
+// The staged plan of a lot: its stages are not more than the lot.
+pub fn staged_plan(lot: Asked, book: &[u8]) -> StagedPlanned
+    ensures { λ r. ⌜ stagedPlanned r
+        ≡ beside (withoutLetter noStages) itself
+        (lettered (askedPaper lot) (stagedPlan (askedPaper lot) (now (book .entry)))) ⌝ }
+{
+    match supplied(lot, entry::STAGED, book) {
+        Supply::Refused(number, place) => staged_unplanned(number, place),
+        Supply::At(letter, place) => {
+            let from = 2 * place;
+            let plan = entry::staged_at(&book[from..]);
+            if (lot.size as u64) < total_size(plan) {
+                return staged_unplanned(NO_PLAN, 0);
+            }
+            StagedPlanned {
+                answer: Outcome::Given,
+                letter,
+                plan,
+            }
+        }
+    }
+}
+
+pub(crate) fn no_sequence() -> SequentialPlan
+    ensures { λ r. ⌜ sequentialPaper r ≡ zeroSequential ⌝ }
+{
+    SequentialPlan {
+        ha: 0,
+        hr: 0,
+        g: 0,
+        nt: 0,
+        at_nt: 0,
+    }
+}
+
+fn sequential_unplanned(number: u8, place: usize) -> SequentialPlanned
+    ensures { λ r. ⌜ sequentialPlanned r ≡ beside (withoutLetter zeroSequential) itself (refused number place) ⌝ }
+{
+    SequentialPlanned {
+        answer: Outcome::Refused(number, place),
+        letter: 0,
+        plan: no_sequence(),
+    }
+}
+
+// The sequential plan of a lot: nt is not more than the lot.
+pub fn sequential_plan(lot: Asked, book: &[u8]) -> SequentialPlanned
+    ensures { λ r. ⌜ sequentialPlanned r
+        ≡ beside (withoutLetter zeroSequential) itself
+        (lettered (askedPaper lot) (sequentialPlan (askedPaper lot) (now (book .entry)))) ⌝ }
+{
+    match supplied(lot, entry::SEQUENTIAL, book) {
+        Supply::Refused(number, place) => sequential_unplanned(number, place),
+        Supply::At(letter, place) => {
+            let from = 2 * place;
+            let plan = entry::sequential_at(&book[from..]);
+            if lot.size < plan.nt as u32 {
+                return sequential_unplanned(NO_PLAN, 0);
+            }
+            SequentialPlanned {
+                answer: Outcome::Given,
+                letter,
+                plan,
+            }
+        }
+    }
+}
+
+pub(crate) fn no_readings() -> VariablesPlan
+    ensures { λ r. ⌜ variablesPaper r ≡ zeroVariables ⌝ }
+{
+    VariablesPlan { n: 0, k: 0 }
+}
+
+fn variables_unplanned(number: u8, place: usize) -> VariablesPlanned
+    ensures { λ r. ⌜ variablesPlanned r ≡ beside (withoutLetter zeroVariables) itself (refused number place) ⌝ }
+{
+    VariablesPlanned {
+        answer: Outcome::Refused(number, place),
+        letter: 0,
+        plan: no_readings(),
+    }
+}
+
+// The variables plan of a lot: n is not more than the lot.
+pub fn variables_plan(lot: Asked, book: &[u8]) -> VariablesPlanned
+    ensures { λ r. ⌜ variablesPlanned r
+        ≡ beside (withoutLetter zeroVariables) itself
+        (lettered (askedPaper lot) (variablesPlan (askedPaper lot) (now (book .entry)))) ⌝ }
+{
+    match supplied(lot, entry::VARIABLES, book) {
+        Supply::Refused(number, place) => variables_unplanned(number, place),
+        Supply::At(letter, place) => {
+            let from = 2 * place;
+            let plan = entry::variables_at(&book[from..]);
+            if lot.size < plan.n as u32 {
+                return variables_unplanned(NO_PLAN, 0);
+            }
+            VariablesPlanned {
+                answer: Outcome::Given,
+                letter,
+                plan,
+            }
+        }
+    }
+}
