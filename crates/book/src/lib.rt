@@ -13,6 +13,13 @@ ghost use Rattle.book.specs.Paper.{entryAfter, SectionRead, SectionsRead
 use entry::Key;
 use entry::Walk;
 
+// Refusals.
+const NO_PLAN: u8 = 6;
+
+const BROKEN_BOOK: u8 = 12;
+
+const LARGEST_BOOK: usize = 32768;
+
 // The entry at a place of a section, after the one that stands from prev up to it; the first has none before it.
 fn entry_at(kind: usize, part: &[u8], prev: usize, at: usize) -> Walk
     requires { ⌜ (prev ≤ at) × (at ≤ length (numbersOf (now part))) ⌝ }
@@ -129,8 +136,8 @@ fn check_whole(asked: usize, key: Key, book: &[u8]) -> Whole
         ≡ onSound (checkBook (now (book .entry))) (given (placeOf asked key (numbersOf (now (book .entry))))) ⌝ }
 {
     let len = book.len();
-    if 32768 < len {
-        return Whole::Broken(32768);
+    if LARGEST_BOOK < len {
+        return Whole::Broken(LARGEST_BOOK);
     }
     match check_sections(asked, key, book) {
         Stretch::Ends(p, held) => {
@@ -161,7 +168,7 @@ pub fn check_book(book: &[u8]) -> BookAnswer
         column: 0,
     };
     match check_whole(entry::KINDS, key, book) {
-        Whole::Broken(byte) => BookAnswer::Refused(12, byte),
+        Whole::Broken(byte) => BookAnswer::Refused(BROKEN_BOOK, byte),
         Whole::Sound(_) => BookAnswer::Sound,
     }
 }
@@ -183,10 +190,10 @@ pub fn find(kind: usize, severity: u32, letter: u8, column: u32, book: &[u8]) ->
         column,
     };
     match check_whole(kind, key, book) {
-        Whole::Broken(byte) => Found::Refused(12, byte),
+        Whole::Broken(byte) => Found::Refused(BROKEN_BOOK, byte),
         Whole::Sound(held) => {
             if held == 0 {
-                return Found::Refused(6, 0);
+                return Found::Refused(NO_PLAN, 0);
             }
             Found::At(held)
         }

@@ -7,6 +7,11 @@ ghost use lib.ListN.{length, getD, take};
 ghost use Rattle.rules.specs.Numbers.{numbersOf};
 ghost use Rattle.rules.specs.Book.{kindAt, within, _to_, acKeeps, reKeeps, stagedNumber, stagedRule};
 ghost use Rattle.rules.specs.Book.{atFits, sequentialRule};
+use crate::SEQUENTIAL;
+use crate::STAGED;
+
+// As Ac, a mark: no acceptance at that stage.
+const MARK: u16 = 65535;
 
 // The number at a place has 16 bits.
 pub(crate) fn number16(e: &[u8], i: usize) -> u16
@@ -26,10 +31,10 @@ fn size_keeps(size: u16) -> bool
 fn ac_keeps(first: bool, last: bool, before: u16, ac: u16) -> bool
     ensures { λ r. ⌜ r ≡ acKeeps first last before ac ⌝ }
 {
-    if ac == 65535 {
-        return !last & (first | (before == 65535));
+    if ac == MARK {
+        return !last & (first | (before == MARK));
     }
-    first | ((before == 65535) | (before <= ac))
+    first | ((before == MARK) | (before <= ac))
 }
 
 // Re is over Ac, at the last stage by one.
@@ -46,7 +51,7 @@ fn re_over(last: bool, ac: u16, re: u16) -> bool
 fn re_keeps(first: bool, last: bool, before: u16, ac: u16, re: u16) -> bool
     ensures { λ r. ⌜ r ≡ reKeeps first last before ac re ⌝ }
 {
-    (re <= 65534) & ((first | (before <= re)) & ((ac == 65535) | re_over(last, ac, re)))
+    (re <= 65534) & ((first | (before <= re)) & ((ac == MARK) | re_over(last, ac, re)))
 }
 
 // The number x at place i of an entry of m stages, after the numbers two places and one place before it.
@@ -109,10 +114,10 @@ pub(crate) fn keeps_rule(kind: usize, e: &[u8], i: usize, x: u16) -> bool
     requires { ⌜ i < length (numbersOf (now e)) ⌝ }
     ensures { λ r. ⌜ r ≡ kindAt kind .rule (take i (numbersOf (now (e .entry)))) x ⌝ }
 {
-    if kind == 1 {
+    if kind == STAGED {
         return staged_rule(e, i, x);
     }
-    if kind == 2 {
+    if kind == SEQUENTIAL {
         return sequential_rule(e, i, x);
     }
     true

@@ -72,7 +72,7 @@ pub enum Walk {
 fn key_len(kind: usize) -> usize
     ensures { λ r. ⌜ (r ≡ kindAt kind .key) × (r ≤ 3) ⌝ }
 {
-    if kind == 0 { 2 } else { 3 }
+    if kind == REDUCED { 2 } else { 3 }
 }
 
 // How many numbers an entry has, by the number after its key.
@@ -80,9 +80,9 @@ fn entry_size(kind: usize, after: u16) -> usize
     ensures { λ r. ⌜ (r ≡ kindAt kind .size after) × (r < 200000) ⌝ }
 {
     match kind {
-        0 => 4,
-        1 => 4 + 3 * (after as usize),
-        2 => 8,
+        REDUCED => 4,
+        STAGED => 4 + 3 * (after as usize),
+        SEQUENTIAL => 8,
         _ => 5,
     }
 }
@@ -167,10 +167,10 @@ pub fn walk_entry(kind: usize, before: &[u8], e: &[u8]) -> Walk
         return Walk::Broken(0);
     }
     match kind {
-        0 => entry_numbers(0, e),
-        1 => entry_numbers(1, e),
-        2 => entry_numbers(2, e),
-        _ => entry_numbers(3, e),
+        REDUCED => entry_numbers(REDUCED, e),
+        STAGED => entry_numbers(STAGED, e),
+        SEQUENTIAL => entry_numbers(SEQUENTIAL, e),
+        _ => entry_numbers(VARIABLES, e),
     }
 }
 
@@ -189,7 +189,7 @@ pub fn is_under(kind: usize, key: Key, e: &[u8]) -> bool
 {
     let letter = key.letter as u64;
     let column = key.column as u64;
-    if kind == 0 {
+    if kind == REDUCED {
         return pair_is(e, 0, letter, column);
     }
     (numbers::number(e, 0) == key.severity as u64) & pair_is(e, 1, letter, column)

@@ -3,6 +3,9 @@ ghost use mathlib.Core.Path.{_≡_};
 ghost use lib.ListN.{getD};
 ghost use Rattle.rules.specs.Book.{kindAt, within, anything, reducedSingles, staged, sequential, variables};
 ghost use Rattle.entry.specs.Paper.{rangePaper};
+use crate::REDUCED;
+use crate::SEQUENTIAL;
+use crate::STAGED;
 
 // The least and the most that a number of an entry may be.
 pub(crate) struct Range(u16, u16);
@@ -68,9 +71,9 @@ fn range_at(kind: usize, i: usize) -> Range
     ensures { λ r. ⌜ rangePaper r ≡ getD (kindAt kind .ranges) i anything ⌝ }
 {
     match kind {
-        0 => reduced_range(i),
-        1 => staged_range(i),
-        2 => sequential_range(i),
+        REDUCED => reduced_range(i),
+        STAGED => staged_range(i),
+        SEQUENTIAL => sequential_range(i),
         _ => variables_range(i),
     }
 }
