@@ -9,35 +9,35 @@ use lib.ListN.{length}
 use lib.Seq.{length-take-le}
 use borrow.Author.Tests.{lt-ltb, le-ltb, le-leb, lt-leb, ne-eqb}
 use Rattle.rules.specs.Severity as paper
-use Rattle.rules.specs.History.{ours}
+use Rattle.rules.specs.History.{Work}
 use Rattle.rules.specs.Log.{newline, lineAfter}
 use Rattle.rules.specs.Feeding.{upTo, soFar, longestLine, isBegun, Held, holding, ended, fed, finished}
 use Rattle.rules.proofs.Bounded.{by-le}
 use Rattle.rules.proofs.Feeding.{going, ends, goes, fed-ends, fed-goes-on}
 use Rattle.severity.specs.declared.Record.{Record}
-use Rattle.severity.specs.Paper.{paperRecord}
+use Rattle.severity.specs.Paper.{recordPaper}
 use Rattle.lotlines.specs.declared.Logged.{Logged}
 use Rattle.lotlines.specs.declared.State.{State}
 use Rattle.lotlines.specs.declared.Gathered.{Gathered}
 use Rattle.lotlines.specs.Printing.{Puts}
-use Rattle.lotlines.specs.Paper.{Logs, begunOf, heldOf, paperHeld, lengthAfter, Gathers, Feeds}
+use Rattle.lotlines.specs.Paper.{Logs, begunOf, heldOf, heldPaper, lengthAfter, Gathers, Feeds}
 use Rattle.lotlines.proofs.Keeping.{kept-begun}
 
 nothing-put : (out : List ℕ) → Puts 0 [] out out 0
 nothing-put out = record { next = refl; stored = refl; fits = omega arith }
 
-module _ (s : State) {piece kept : List ℕ} {gathered : Gathered} (whole : length (s .bytes) ≡ longestLine)
+module _ (w : Work) (s : State) {piece kept : List ℕ} {gathered : Gathered} (whole : length (s .bytes) ≡ longestLine)
     (g : Gathers (s .length) (s .bytes) piece kept gathered) where
-  gone : heldOf (s .supply) (s .line) (gathered .length) kept ≡ going (paperHeld s) (upTo newline piece)
+  gone : heldOf (s .supply) (s .line) (gathered .length) kept ≡ going (heldPaper s) (upTo newline piece)
   gone =
       ap (λ (n : ℕ). heldOf (s .supply) (s .line) n kept) (g .long)
       ∙ ap (λ (l : List ℕ). heldOf (s .supply) (s .line) (lengthAfter (s .length) (upTo newline piece)) l) (g .kept)
-      ∙ ap (holding (paperRecord (s .supply)) (s .line)) (kept-begun (s .length) (s .bytes) (upTo newline piece) whole)
+      ∙ ap (holding (recordPaper (s .supply)) (s .line)) (kept-begun (s .length) (s .bytes) (upTo newline piece) whole)
 
   pub feed-ends : {out last : List ℕ} {logged : Logged} {after : ℕ} → gathered .taken < length piece
-      → Logs (ended ours (heldOf (s .supply) (s .line) (gathered .length) kept)) out last logged
+      → Logs (ended w (heldOf (s .supply) (s .line) (gathered .length) kept)) out last logged
       → after ≡ lineAfter (s .line)
-      → Feeds s piece out last
+      → Feeds w s piece out last
       (record {
         state = record { supply = logged .supply; line = after; length = 0; bytes = kept };
         taken = gathered .taken + 1;
@@ -47,7 +47,7 @@ module _ (s : State) {piece kept : List ℕ} {gathered : Gathered} (whole : leng
       record {
         held =
             ap (λ (r : paper.Record). holding r after (soFar [])) (there .held)
-            ∙ ap (λ (n : ℕ). holding (ended ours (going (paperHeld s) (upTo newline piece)) .held) n (soFar [])) e
+            ∙ ap (λ (n : ℕ). holding (ended w (going (heldPaper s) (upTo newline piece)) .held) n (soFar [])) e
             ∙ sym (ap (λ f. f .kept) answer);
         taken = omega (arith, g .taken, ap (λ f. f .taken) answer);
         shown = rw answer (there .shown);
@@ -58,15 +58,15 @@ module _ (s : State) {piece kept : List ℕ} {gathered : Gathered} (whole : leng
       inside : length (upTo newline piece) < length piece
       inside = omega (arith, g .taken)
 
-      answer : fed ours (paperHeld s) piece
-          ≡ ends ours (going (paperHeld s) (upTo newline piece)) (length (upTo newline piece))
-      answer = fed-ends ours (paperHeld s) piece inside
+      answer : fed w (heldPaper s) piece
+          ≡ ends w (going (heldPaper s) (upTo newline piece)) (length (upTo newline piece))
+      answer = fed-ends w (heldPaper s) piece inside
 
-      there : Logs (ended ours (going (paperHeld s) (upTo newline piece))) out last logged
-      there = subst (λ (h : Held). Logs (ended ours h) out last logged) gone l
+      there : Logs (ended w (going (heldPaper s) (upTo newline piece))) out last logged
+      there = subst (λ (h : Held). Logs (ended w h) out last logged) gone l
 
   pub feed-goes-on : (out : List ℕ) → length piece ≤ gathered .taken
-      → Feeds s piece out out
+      → Feeds w s piece out out
       (record {
         state = record { supply = s .supply; line = s .line; length = gathered .length; bytes = kept };
         taken = gathered .taken;
@@ -84,14 +84,14 @@ module _ (s : State) {piece kept : List ℕ} {gathered : Gathered} (whole : leng
       outside : length piece ≤ length (upTo newline piece)
       outside = omega (arith, g .taken)
 
-      answer : fed ours (paperHeld s) piece
-          ≡ goes (going (paperHeld s) (upTo newline piece)) (length (upTo newline piece))
-      answer = fed-goes-on ours (paperHeld s) piece outside
+      answer : fed w (heldPaper s) piece
+          ≡ goes (going (heldPaper s) (upTo newline piece)) (length (upTo newline piece))
+      answer = fed-goes-on w (heldPaper s) piece outside
 
 -- finishing
-pub nothing-begun : (supply : Record) (line n : ℕ) (bytes out : List ℕ) → n ≡ 0
-    → Puts 0 (finished ours (heldOf supply line n bytes)) out out 0
-nothing-begun supply line n bytes out e = rw e (nothing-put out)
+pub nothing-begun : (w : Work) (supply : Record) (line n : ℕ) (bytes out : List ℕ) → n ≡ 0
+    → Puts 0 (finished w (heldOf supply line n bytes)) out out 0
+nothing-begun w supply line n bytes out e = rw e (nothing-put out)
 
 is-begun : (n : ℕ) (bytes : List ℕ) → length bytes ≡ longestLine → (n ≡ 0 → ⊥) → isBegun (begunOf n bytes) ≡ true
 is-begun n bytes whole h =
@@ -100,7 +100,7 @@ is-begun n bytes whole h =
     (le-leb n longestLine e, length-take-le n bytes (omega arith), ne-eqb n 0 h))
     (λ e. simp (lt-leb n longestLine e))
 
-pub begun-ended : (supply : Record) (line n : ℕ) (bytes : List ℕ) {out last : List ℕ} {logged : Logged}
-    → length bytes ≡ longestLine → (n ≡ 0 → ⊥) → Logs (ended ours (heldOf supply line n bytes)) out last logged
-    → Puts 0 (finished ours (heldOf supply line n bytes)) out last (logged .written)
-begun-ended supply line n bytes whole h l = rw (is-begun n bytes whole h) (l .shown)
+pub begun-ended : (w : Work) (supply : Record) (line n : ℕ) (bytes : List ℕ) {out last : List ℕ} {logged : Logged}
+    → length bytes ≡ longestLine → (n ≡ 0 → ⊥) → Logs (ended w (heldOf supply line n bytes)) out last logged
+    → Puts 0 (finished w (heldOf supply line n bytes)) out last (logged .written)
+begun-ended w supply line n bytes whole h l = rw (is-begun n bytes whole h) (l .shown)

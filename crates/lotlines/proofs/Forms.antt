@@ -8,11 +8,12 @@ use mathlib.Core.List.{List, [], _∷_}
 use lib.Dec.{leb, eqb}
 use lib.ListN.{length, getD}
 use borrow.Author.Tests.{le-leb, ne-eqb}
-use Rattle.rules.specs.History.{Work, ours}
+use Rattle.rules.specs.History.{Work}
 use Rattle.rules.specs.Log as log
 use Rattle.rules.specs.Log.{splitAt, space, isNumber, valueOf, fieldAt, numbersAfter, lotIn}
 use Rattle.rules.specs.Log.{yesOrNo, orderIn}
-use Rattle.rules.specs.Log.{orderLine, unknownLine, lineOf}
+use Rattle.rules.specs.Log.{orderLine, unknownLine, lineOf, originalLetter, resubmittedLetter, steadyLetter}
+use Rattle.rules.specs.Log.{permissionLetter, correctiveLetter}
 use Rattle.rules.specs.Feeding.{upTo}
 use Rattle.rules.proofs.LineForms.{restAt, split-first}
 use Rattle.lotlines.specs.Reading.{fieldsFrom, numbersThen, lotOf, orderOf, lotFrom, orderFrom}
@@ -64,43 +65,53 @@ one-number onYes onNo b (f ∷ []) = two-tests (isNumber f) (leb (valueOf f) 1) 
 one-number onYes onNo b (f ∷ g ∷ fs) = simp (ne-eqb (suc (length (f ∷ g ∷ fs))) 2 (λ q. omega arith), both-ways)
 
 -- a letter by itself, and fields after it
-lot-original : (fs : List (List ℕ)) → lineOf ours ((76 ∷ []) ∷ fs) ≡ numbersThen 4 fs (lotOf false)
+lot-original : (w : Work) (fs : List (List ℕ))
+    → lineOf w ((originalLetter ∷ []) ∷ fs) ≡ numbersThen 4 fs (lotOf false)
 unfolding lineOf
-lot-original fs = simp (and-false, and-true) (four-numbers false 76 fs)
+lot-original w fs = simp (and-false, and-true) (four-numbers false originalLetter fs)
 
-lot-again : (fs : List (List ℕ)) → lineOf ours ((82 ∷ []) ∷ fs) ≡ numbersThen 4 fs (lotOf true)
+lot-again : (w : Work) → w .resubmission ≡ true → (fs : List (List ℕ))
+    → lineOf w ((resubmittedLetter ∷ []) ∷ fs) ≡ numbersThen 4 fs (lotOf true)
 unfolding lineOf
-lot-again fs = simp (and-false, and-true) (four-numbers true 82 fs)
+lot-again w e fs = simp (e, and-false, and-true) (four-numbers true resubmittedLetter fs)
 
-order-steady : (fs : List (List ℕ)) → lineOf ours ((83 ∷ []) ∷ fs) ≡ numbersThen 1 fs (orderOf 5 6)
+not-again : (w : Work) → w .resubmission ≡ false → (fs : List (List ℕ))
+    → lineOf w ((resubmittedLetter ∷ []) ∷ fs) ≡ unknownLine
 unfolding lineOf
-order-steady fs = simp (and-false, and-true) (one-number 5 6 83 fs)
+not-again w e fs = simp (e, and-false, and-true)
 
-order-permission : (fs : List (List ℕ)) → lineOf ours ((80 ∷ []) ∷ fs) ≡ numbersThen 1 fs (orderOf 7 8)
+order-steady : (w : Work) (fs : List (List ℕ)) → lineOf w ((steadyLetter ∷ []) ∷ fs) ≡ numbersThen 1 fs (orderOf 5 6)
 unfolding lineOf
-order-permission fs = simp (and-false, and-true) (one-number 7 8 80 fs)
+order-steady w fs = simp (and-false, and-true) (one-number 5 6 steadyLetter fs)
+
+order-permission : (w : Work) (fs : List (List ℕ))
+    → lineOf w ((permissionLetter ∷ []) ∷ fs) ≡ numbersThen 1 fs (orderOf 7 8)
+unfolding lineOf
+order-permission w fs = simp (and-false, and-true) (one-number 7 8 permissionLetter fs)
 
 -- a line by its bytes
-pub blank : (l : List ℕ) → length l ≡ 0 → unknownLine ≡ lineOf ours (splitAt space l)
+pub blank : (w : Work) (l : List ℕ) → length l ≡ 0 → unknownLine ≡ lineOf w (splitAt space l)
 unfolding lineOf splitAt
-blank [] e = refl
-blank (b ∷ bs) e = absurd (omega arith)
+blank w [] e = refl
+blank w (b ∷ bs) e = absurd (omega arith)
 
-pub corrective : (l : List ℕ) → length l ≡ 1 → getD l 0 0 ≡ 67 → orderLine 9 ≡ lineOf ours (splitAt space l)
+pub corrective : (w : Work) (l : List ℕ) → length l ≡ 1 → getD l 0 0 ≡ correctiveLetter
+    → orderLine 9 ≡ lineOf w (splitAt space l)
 unfolding lineOf splitAt
-corrective [] e q = absurd (omega arith)
-corrective (b ∷ []) e q = rw q refl
-corrective (b ∷ x ∷ bs) e q = absurd (omega arith)
+corrective w [] e q = absurd (omega arith)
+corrective w (b ∷ []) e q = rw q refl
+corrective w (b ∷ x ∷ bs) e q = absurd (omega arith)
 
-pub alone : (l : List ℕ) → length l ≡ 1 → (getD l 0 0 ≡ 67 → ⊥) → unknownLine ≡ lineOf ours (splitAt space l)
+pub alone : (w : Work) (l : List ℕ) → length l ≡ 1 → (getD l 0 0 ≡ correctiveLetter → ⊥)
+    → unknownLine ≡ lineOf w (splitAt space l)
 unfolding lineOf splitAt
-alone [] e q = absurd (omega arith)
-alone (b ∷ []) e q = go (eqb b space)
+alone w [] e q = absurd (omega arith)
+alone w (b ∷ []) e q = go (eqb b space)
   where
-    go : (t : Bool) → unknownLine ≡ lineOf ours (cond t ([] ∷ [] ∷ []) ((b ∷ []) ∷ []))
+    go : (t : Bool) → unknownLine ≡ lineOf w (cond t ([] ∷ [] ∷ []) ((b ∷ []) ∷ []))
     go true = refl
-    go false = sym (simp (ne-eqb b 67 q))
-alone (b ∷ x ∷ bs) e q = absurd (omega arith)
+    go false = sym (simp (ne-eqb b correctiveLetter q))
+alone w (b ∷ x ∷ bs) e q = absurd (omega arith)
 
 longer-first : (b x : ℕ) (bs : List ℕ) → (x ≡ space → ⊥)
     → eqb (length (fieldAt (splitAt space (b ∷ x ∷ bs)) 0)) 1 ≡ false
@@ -115,59 +126,68 @@ longer-first b x bs q =
     go true = refl
     go false = ne-eqb (suc (suc (length (upTo space bs)))) 1 (λ q. omega arith)
 
-pub unspaced : (l : List ℕ) → (length l ≡ 0 → ⊥) → (length l ≡ 1 → ⊥) → (getD l 1 0 ≡ space → ⊥)
-    → unknownLine ≡ lineOf ours (splitAt space l)
-unspaced [] e f q = absurd (e refl)
-unspaced (b ∷ []) e f q = absurd (f refl)
-unspaced (b ∷ x ∷ bs) e f q = sym (not-one ours (splitAt space (b ∷ x ∷ bs)) (longer-first b x bs q))
+pub unspaced : (w : Work) (l : List ℕ) → (length l ≡ 0 → ⊥) → (length l ≡ 1 → ⊥) → (getD l 1 0 ≡ space → ⊥)
+    → unknownLine ≡ lineOf w (splitAt space l)
+unspaced w [] e f q = absurd (e refl)
+unspaced w (b ∷ []) e f q = absurd (f refl)
+unspaced w (b ∷ x ∷ bs) e f q = sym (not-one w (splitAt space (b ∷ x ∷ bs)) (longer-first b x bs q))
 
 -- what follows a letter and a space
 fields-after : (b x : ℕ) (bs : List ℕ) → fieldsFrom (b ∷ x ∷ bs) 2 ≡ splitAt space bs
 unfolding fieldsFrom
 fields-after b x bs = simp (le-leb 2 (suc (suc (length bs))) (omega arith))
 
-lettered : (letter k : ℕ) (give : List ℕ → log.Line) → eqb letter space ≡ false
-    → ((fs : List (List ℕ)) → lineOf ours ((letter ∷ []) ∷ fs) ≡ numbersThen k fs give)
+lettered : (w : Work) (letter k : ℕ) (give : List ℕ → log.Line) → eqb letter space ≡ false
+    → ((fs : List (List ℕ)) → lineOf w ((letter ∷ []) ∷ fs) ≡ numbersThen k fs give)
     → (l : List ℕ) → (length l ≡ 0 → ⊥) → (length l ≡ 1 → ⊥) → getD l 1 0 ≡ space → getD l 0 0 ≡ letter
-    → numbersThen k (fieldsFrom l 2) give ≡ lineOf ours (splitAt space l)
+    → numbersThen k (fieldsFrom l 2) give ≡ lineOf w (splitAt space l)
 unfolding splitAt
-lettered letter k give o says [] e f s q = absurd (e refl)
-lettered letter k give o says (b ∷ []) e f s q = absurd (f refl)
-lettered letter k give o says (b ∷ x ∷ bs) e f s q =
+lettered w letter k give o says [] e f s q = absurd (e refl)
+lettered w letter k give o says (b ∷ []) e f s q = absurd (f refl)
+lettered w letter k give o says (b ∷ x ∷ bs) e f s q =
     rw (fields-after b x bs, s, q, o) (sym (says (splitAt space bs)))
 
-module _ (l : List ℕ) (e : length l ≡ 0 → ⊥) (f : length l ≡ 1 → ⊥) (s : getD l 1 0 ≡ space) where
-  pub known-lot : getD l 0 0 ≡ 76 → lotFrom false l 2 ≡ lineOf ours (splitAt space l)
-  known-lot q = lettered 76 4 (lotOf false) refl lot-original l e f s q
+module _ (w : Work) (l : List ℕ) (e : length l ≡ 0 → ⊥) (f : length l ≡ 1 → ⊥) (s : getD l 1 0 ≡ space) where
+  pub known-lot : getD l 0 0 ≡ originalLetter → lotFrom false l 2 ≡ lineOf w (splitAt space l)
+  known-lot q = lettered w originalLetter 4 (lotOf false) refl (lot-original w) l e f s q
 
-  pub known-again : getD l 0 0 ≡ 82 → lotFrom true l 2 ≡ lineOf ours (splitAt space l)
-  known-again q = lettered 82 4 (lotOf true) refl lot-again l e f s q
+  pub known-again : w .resubmission ≡ true → getD l 0 0 ≡ resubmittedLetter
+      → lotFrom true l 2 ≡ lineOf w (splitAt space l)
+  known-again r q = lettered w resubmittedLetter 4 (lotOf true) refl (lot-again w r) l e f s q
 
-  pub known-steady : getD l 0 0 ≡ 83 → orderFrom 5 6 l 2 ≡ lineOf ours (splitAt space l)
-  known-steady q = lettered 83 1 (orderOf 5 6) refl order-steady l e f s q
+  pub known-steady : getD l 0 0 ≡ steadyLetter → orderFrom 5 6 l 2 ≡ lineOf w (splitAt space l)
+  known-steady q = lettered w steadyLetter 1 (orderOf 5 6) refl (order-steady w) l e f s q
 
-  pub known-permission : getD l 0 0 ≡ 80 → orderFrom 7 8 l 2 ≡ lineOf ours (splitAt space l)
-  known-permission q = lettered 80 1 (orderOf 7 8) refl order-permission l e f s q
+  pub known-permission : getD l 0 0 ≡ permissionLetter → orderFrom 7 8 l 2 ≡ lineOf w (splitAt space l)
+  known-permission q = lettered w permissionLetter 1 (orderOf 7 8) refl (order-permission w) l e f s q
 
-pub unlettered : (l : List ℕ) → (length l ≡ 0 → ⊥) → (length l ≡ 1 → ⊥) → getD l 1 0 ≡ space
-    → (getD l 0 0 ≡ 76 → ⊥) → (getD l 0 0 ≡ 82 → ⊥) → (getD l 0 0 ≡ 83 → ⊥) → (getD l 0 0 ≡ 80 → ⊥)
-    → unknownLine ≡ lineOf ours (splitAt space l)
+pub unknown-again : (w : Work) (l : List ℕ) → (length l ≡ 0 → ⊥) → (length l ≡ 1 → ⊥) → getD l 1 0 ≡ space
+    → getD l 0 0 ≡ resubmittedLetter → w .resubmission ≡ false → unknownLine ≡ lineOf w (splitAt space l)
+unfolding splitAt
+unknown-again w [] e f s q r = absurd (e refl)
+unknown-again w (b ∷ []) e f s q r = absurd (f refl)
+unknown-again w (b ∷ x ∷ bs) e f s q r = rw (s, q) (sym (not-again w r (splitAt space bs)))
+
+pub unlettered : (w : Work) (l : List ℕ) → (length l ≡ 0 → ⊥) → (length l ≡ 1 → ⊥) → getD l 1 0 ≡ space
+    → (getD l 0 0 ≡ originalLetter → ⊥) → (getD l 0 0 ≡ resubmittedLetter → ⊥) → (getD l 0 0 ≡ steadyLetter → ⊥)
+    → (getD l 0 0 ≡ permissionLetter → ⊥)
+    → unknownLine ≡ lineOf w (splitAt space l)
 unfolding splitAt lineOf
-unlettered [] e f s a b c d = absurd (e refl)
-unlettered (x ∷ []) e f s a b c d = absurd (f refl)
-unlettered (x ∷ y ∷ bs) e f s a b c d = rw (s, split-first space bs) (sym (go (eqb x space)))
+unlettered w [] e f s a b c d = absurd (e refl)
+unlettered w (x ∷ []) e f s a b c d = absurd (f refl)
+unlettered w (x ∷ y ∷ bs) e f s a b c d = rw (s, split-first space bs) (sym (go (eqb x space)))
   where
     fs : List (List ℕ)
     fs = upTo space bs ∷ restAt space bs
 
-    go : (t : Bool) → lineOf ours (cond t ([] ∷ ([] ∷ fs)) ((x ∷ []) ∷ fs)) ≡ unknownLine
-    go true = not-one ours ([] ∷ ([] ∷ fs)) refl
+    go : (t : Bool) → lineOf w (cond t ([] ∷ ([] ∷ fs)) ((x ∷ []) ∷ fs)) ≡ unknownLine
+    go true = not-one w ([] ∷ ([] ∷ fs)) refl
     go false =
         simp (
-          ne-eqb x 76 a,
-          ne-eqb x 82 b,
-          ne-eqb x 83 c,
-          ne-eqb x 80 d,
+          ne-eqb x originalLetter a,
+          ne-eqb x resubmittedLetter b,
+          ne-eqb x steadyLetter c,
+          ne-eqb x permissionLetter d,
           ne-eqb (suc (length fs)) 1 (λ q. omega arith),
           and-false,
         )

@@ -1,6 +1,6 @@
 -- The unfinished line as it is kept: byte by byte, and what it stands for.
 -- Assumes nothing.
-use Prim.Native.Nat.{ℕ, _+_, _≤_, _<_}
+use Prim.Native.Nat.{ℕ, suc, _+_, _≤_, _<_}
 use native.Mathlib.Omega.{arith}
 use native.Mathlib.Numerals.{add-one}
 use mathlib.Core.Path.{_≡_, refl, sym, ap, _∙_}
@@ -11,13 +11,13 @@ use lib.ListN.{length, getD, drop, set, length-set, drop-of-length-le, replicate
 use lib.Seq.{take-suc-set, length-take-le, drop-cons}
 use borrow.Author.Tests.{lt-ltb, le-ltb, le-leb, lt-leb, eq-eqb, ne-eqb}
 use Rattle.rules.specs.Severity.{fresh}
-use Rattle.rules.specs.History.{ours}
+use Rattle.rules.specs.History.{Work}
 use Rattle.rules.specs.Log.{newline}
 use Rattle.rules.specs.Feeding.{upTo, Begun, longestLine, oneMore, starting}
 use Rattle.rules.proofs.Bounded.{by-le}
 use Rattle.rules.proofs.Feeding.{extended}
 use Rattle.severity.specs.declared.Record.{Record}
-use Rattle.severity.specs.Paper.{paperRecord}
+use Rattle.severity.specs.Paper.{recordPaper}
 use Rattle.lotlines.specs.Paper.{begunOf, heldOf, lengthWith, bytesWith, lengthAfter, bytesAfter, Gathers}
 
 -- one byte more
@@ -112,12 +112,12 @@ pub room : (n b : ℕ) (bytes : List ℕ) → n < longestLine
 room n b bytes h = (simp (lt-ltb n longestLine h) (add-one n), simp (lt-ltb n longestLine h))
 
 pub no-room : (n b : ℕ) (bytes : List ℕ) → longestLine ≤ n
-    → (46 ≡ lengthWith n) × (bytes ≡ bytesWith n bytes b)
+    → (suc longestLine ≡ lengthWith n) × (bytes ≡ bytesWith n bytes b)
 no-room n b bytes h = (simp (le-ltb n longestLine h), simp (le-ltb n longestLine h))
 
-pub starts-held : (supply : Record) → paperRecord supply ≡ fresh false
-    → heldOf supply 1 0 (replicate 45 0) ≡ starting ours
-starts-held supply e = rw e refl
+pub starts-held : (w : Work) (supply : Record) → recordPaper supply ≡ fresh (w .permission)
+    → heldOf supply 1 0 (replicate longestLine 0) ≡ starting w
+starts-held w supply e = rw e refl
 
 pub length-after : (n : ℕ) (bytes l : List ℕ) → length (bytesAfter n bytes l) ≡ length bytes
 unfolding bytesAfter

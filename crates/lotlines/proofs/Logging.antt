@@ -1,91 +1,91 @@
 -- A line's answer printed and taken into the record: one law for each way out.
 -- Assumes nothing.
 use Prim.Native.Nat.{ℕ, _≤_, _<_}
-use mathlib.Core.Path.{_≡_, refl}
-use mathlib.Core.Bool.{Bool}
+use mathlib.Core.Path.{_≡_, refl, ap, _∙_}
 use mathlib.Core.List.{List}
 use lib.ListN.{take}
 use borrow.Author.Tests.{le-leb, lt-leb}
-use Rattle.rules.specs.History.{ours}
+use Rattle.rules.specs.History.{Work}
+use Rattle.rules.specs.Refusals.{unknownForm}
 use Rattle.rules.specs.Entries.{closeTotal, next}
-use Rattle.rules.specs.Log.{refusedLine, unknownLine, lineOf, splitAt, space, loggedLot, loggedOrder, loggedAs}
+use Rattle.rules.specs.Log.{refusedLine, unknownLine, lineOf, splitAt, space, lotText, orderText, loggedLot}
+use Rattle.rules.specs.Log.{loggedOrder, loggedAs}
 use Rattle.rules.specs.Feeding.{longestLine, ended}
+use Rattle.plans.specs.Paper.{beside, zeroPlan}
 use Rattle.severity.specs.declared.Record.{Record}
 use Rattle.severity.specs.declared.Stepped.{Stepped}
 use Rattle.severity.specs.declared.Stepped.the-variants as stepped
-use Rattle.severity.specs.Paper.{paperRecord, paperStepped}
-use Rattle.sentencing.specs.declared.SingleClosed.{SingleClosed}
-use Rattle.sentencing.specs.declared.SingleClosing.{SingleClosing}
-use Rattle.sentencing.specs.declared.SingleClosing.the-variants as closing
-use Rattle.sentencing.specs.Paper.{offered, closedPaper}
+use Rattle.severity.specs.Paper.{recordPaper, steppedPaper}
+use Rattle.closing.specs.declared.Offered.{Offered}
+use Rattle.closing.specs.declared.Closed.{Closed}
+use Rattle.closing.specs.declared.ClosedAnswer.the-variants as closes
+use Rattle.closing.specs.declared.SingleClosed.{SingleClosed}
+use Rattle.closing.specs.Paper.{offeredPaper, closedBeside, planClosed}
+use Rattle.closing.proofs.Closing.{answer-of}
 use Rattle.lotlines.specs.declared.Logged.{Logged}
-use Rattle.lotlines.specs.declared.Line.{Line}
-use Rattle.lotlines.specs.declared.Line.the-variants.{Lot, Order, Unknown}
-use Rattle.lotlines.specs.Reading.{paperLine}
-use Rattle.lotlines.specs.Printing.{Puts, orderLineText, lotLineText}
-use Rattle.lotlines.specs.Paper.{closedOf, Logs, heldOf}
+use Rattle.lotlines.specs.declared.lines.Line.{Line}
+use Rattle.lotlines.specs.declared.lines.Line.the-variants.{Lot, Order, Unknown}
+use Rattle.lotlines.specs.Reading.{linePaper}
+use Rattle.lotlines.specs.Printing.{Puts, closedPlan}
+use Rattle.lotlines.specs.Paper.{Logs, heldOf}
 
 module _ (supply : Record) (line : ℕ) {out last : List ℕ} {r : ℕ} where
-  pub lot-refused : {answer : SingleClosing} {n p : ℕ} → answer ≡ closing.Refused n p
+  pub lot-refused : (closed : SingleClosed) {n p : ℕ} → closed .answer ≡ closes.Refused n p
       → Puts 0 (refusedLine line n) out last r
-      → Logs (loggedLot line (paperRecord supply) (closedPaper answer)) out last (record {
-        supply = supply;
-        written =
-            r;
-      })
-  lot-refused e p = rw e (record { held = refl; shown = p })
+      → Logs (loggedLot line (recordPaper supply) (closedBeside closed .answer)) out last
+      (record { supply = supply; written = r })
+  lot-refused closed e p = rw e (record { held = refl; shown = p })
 
-  pub lot-given : {answer : SingleClosing} {c : SingleClosed} → answer ≡ closing.Given c
-      → Puts 0 (lotLineText line (supply .severity) (closedOf c)) out last r
-      → Logs (loggedLot line (paperRecord supply) (closedPaper answer)) out last
+  pub lot-given : (closed : SingleClosed) {c : Closed} → closed .answer ≡ closes.Given c
+      → Puts 0 (lotText line (recordPaper supply) (closedPlan (closed .plan) c)) out last r
+      → Logs (loggedLot line (recordPaper supply) (closedBeside closed .answer)) out last
       (record { supply = c .«record_after»; written = r })
-  lot-given e p = rw e (record { held = refl; shown = p })
+  lot-given closed e p = rw e (record { held = refl; shown = p })
 
   pub order-refused : {answer : Stepped} {n p : ℕ} → answer ≡ stepped.Refused n p
       → Puts 0 (refusedLine line n) out last r
-      → Logs (loggedOrder line (paperRecord supply) (paperStepped answer)) out last
+      → Logs (loggedOrder line (recordPaper supply) (steppedPaper answer)) out last
       (record { supply = supply; written = r })
   order-refused e p = rw e (record { held = refl; shown = p })
 
   pub order-given : {answer : Stepped} {after : Record} → answer ≡ stepped.Given after
-      → Puts 0 (orderLineText line (after .severity) (after .score)) out last r
-      → Logs (loggedOrder line (paperRecord supply) (paperStepped answer)) out last
+      → Puts 0 (orderText line (recordPaper after)) out last r
+      → Logs (loggedOrder line (recordPaper supply) (steppedPaper answer)) out last
       (record { supply = after; written = r })
   order-given e p = rw e (record { held = refl; shown = p })
 
-  pub unknown-said : {said : Line} → said ≡ Unknown → Puts 0 (refusedLine line 1) out last r
-      → Logs (loggedAs ours line (paperRecord supply) (paperLine said)) out last (record {
-        supply = supply;
-        written =
-            r;
-      })
+  pub unknown-said : (w : Work) {said : Line} → said ≡ Unknown → Puts 0 (refusedLine line unknownForm) out last r
+      → Logs (loggedAs w line (recordPaper supply) (linePaper said)) out last (record { supply = supply; written = r })
   unfolding loggedAs
-  unknown-said e p = rw e (record { held = refl; shown = p })
+  unknown-said w e p = rw e (record { held = refl; shown = p })
 
 -- what a line says, and the unfinished line as it is kept
-module _ (supply : Record) (line : ℕ) {out last : List ℕ} {r : Logged} where
-  pub lot-said : (answer : SingleClosing) {said : Line} {again : Bool} {size level column total : ℕ}
-      → said ≡ Lot again size level column total
-      → closedPaper answer ≡ closeTotal (paperRecord supply) (offered again size level column) total
-      → Logs (loggedLot line (paperRecord supply) (closedPaper answer)) out last r
-      → Logs (loggedAs ours line (paperRecord supply) (paperLine said)) out last r
+module _ (w : Work) (supply : Record) (line : ℕ) {out last : List ℕ} {r : Logged} where
+  pub lot-said : (closed : SingleClosed) {said : Line} {lot : Offered} {total : ℕ} → said ≡ Lot lot total
+      → closedBeside closed ≡ beside zeroPlan planClosed (closeTotal (recordPaper supply) (offeredPaper lot) total)
+      → Logs (loggedLot line (recordPaper supply) (closedBeside closed .answer)) out last r
+      → Logs (loggedAs w line (recordPaper supply) (linePaper said)) out last r
   unfolding loggedAs
-  lot-said answer e f l = rw e (rw f at l)
+  lot-said closed {lot = lot} {total} e f l =
+      let g : closedBeside closed .answer ≡ closeTotal (recordPaper supply) (offeredPaper lot) total
+      = ap (λ b. b .answer) f ∙ answer-of zeroPlan planClosed
+      (closeTotal (recordPaper supply) (offeredPaper lot) total) in
+      rw e (rw g at l)
 
   pub order-said : (answer : Stepped) {said : Line} {byte : ℕ} → said ≡ Order byte
-      → paperStepped answer ≡ next ours (paperRecord supply) byte
-      → Logs (loggedOrder line (paperRecord supply) (paperStepped answer)) out last r
-      → Logs (loggedAs ours line (paperRecord supply) (paperLine said)) out last r
+      → steppedPaper answer ≡ next w (recordPaper supply) byte
+      → Logs (loggedOrder line (recordPaper supply) (steppedPaper answer)) out last r
+      → Logs (loggedAs w line (recordPaper supply) (linePaper said)) out last r
   unfolding loggedAs
   order-said answer e f l = rw e (rw f at l)
 
   pub long-ended : (count : ℕ) (bytes : List ℕ) → longestLine < count
-      → Logs (loggedAs ours line (paperRecord supply) unknownLine) out last r
-      → Logs (ended ours (heldOf supply line count bytes)) out last r
+      → Logs (loggedAs w line (recordPaper supply) unknownLine) out last r
+      → Logs (ended w (heldOf supply line count bytes)) out last r
   long-ended count bytes h l = rw (lt-leb count longestLine h) l
 
   pub line-ended : (count : ℕ) (bytes : List ℕ) (said : Line) → count ≤ longestLine
-      → paperLine said ≡ lineOf ours (splitAt space (take count bytes))
-      → Logs (loggedAs ours line (paperRecord supply) (paperLine said)) out last r
-      → Logs (ended ours (heldOf supply line count bytes)) out last r
+      → linePaper said ≡ lineOf w (splitAt space (take count bytes))
+      → Logs (loggedAs w line (recordPaper supply) (linePaper said)) out last r
+      → Logs (ended w (heldOf supply line count bytes)) out last r
   line-ended count bytes said h e l = rw (le-leb count longestLine h) (rw e at l)

@@ -9,12 +9,15 @@ use mathlib.Core.List.{List, [], _∷_, _++_, append-assoc}
 use lib.ListN.{length, drop, getD, set, length-append, drop-of-length-le, List·getD-eq-default}
 use lib.Seq.{sets, set-comm, drop-cons}
 use Rattle.rules.specs.Ascii.{ascii}
+use Rattle.rules.specs.Codes.{letterNames}
+use Rattle.rules.specs.Severity.{Record}
 use Rattle.rules.specs.Single.{Plan}
 use Rattle.rules.specs.Entries.{Closed}
 use Rattle.rules.specs.Log.{decimal, space, newline, printed, refusedLine, severityName, letterName, verdictName}
+use Rattle.rules.specs.Log.{orderText, lotText}
 use Rattle.rules.proofs.Decimals.{decimal-digit, decimal-last}
-use Rattle.lotlines.specs.Printing.{Puts, severityByte, letterByte, afterText, namesText, planText, orderLineText}
-use Rattle.lotlines.specs.Printing.{lotLineText}
+use Rattle.lotlines.specs.Printing.{Puts, severityByte, letterByte, afterText, namesText, planText}
+use Rattle.lotlines.specs.Printing.{lineRoom}
 
 sets-append : (xs ys out : List ℕ) (at : ℕ) → sets out at (xs ++ ys) ≡ sets (sets out at xs) (at + length xs) ys
 sets-append [] ys out at = ap (λ (n : ℕ). sets out n ys) same
@@ -102,7 +105,7 @@ text-first out text at = ap (λ (n : ℕ). sets out n text) same
     same : at + 0 ≡ at
     same = omega arith
 
-pub text-done : (out last text : List ℕ) (at i : ℕ) → at + length text ≤ 50 → i ≤ length text → length text ≤ i
+pub text-done : (out last text : List ℕ) (at i : ℕ) → at + length text ≤ lineRoom → i ≤ length text → length text ≤ i
     → sets last (at + i) (drop i text) ≡ sets out at text → Puts at text out last (at + i)
 text-done out last text at i f h l e =
     record { next = omega arith; stored = rw (drop-of-length-le text l) at e; fits = omega arith }
@@ -112,7 +115,7 @@ pub no-severity : (severity : ℕ) → 4 ≤ severity → 0 ≡ severityByte sev
 no-severity severity h = sym (List·getD-eq-default (ascii "NTRX") 0 h)
 
 pub no-letter : (letter : ℕ) → 17 ≤ letter → 0 ≡ letterByte letter
-no-letter letter h = sym (List·getD-eq-default (ascii "ABCDEFGHJKLMNPQRS") 0 h)
+no-letter letter h = sym (List·getD-eq-default letterNames 0 h)
 
 -- the texts of lines as the runs that they are stored in
 pub refused-text : (line number : ℕ)
@@ -120,10 +123,10 @@ pub refused-text : (line number : ℕ)
 unfolding printed
 refused-text line number = simp append-assoc
 
-pub order-text : (line severity score : ℕ)
-    → (decimal line ++ ascii " order ") ++ afterText severity score ≡ orderLineText line severity score
+pub order-text : (line : ℕ) (after : Record)
+    → (decimal line ++ ascii " order ") ++ afterText (after .severity) (after .score) ≡ orderText line after
 unfolding printed
-order-text line severity score = simp append-assoc
+order-text line after = simp append-assoc
 
 pub after-text : (severity score name : ℕ) → name ≡ severityByte severity
     → (((name ∷ []) ++ (space ∷ [])) ++ decimal score) ++ (newline ∷ []) ≡ afterText severity score
@@ -141,22 +144,22 @@ pub reject-text : (n ac : ℕ) (accepted : Bool) → accepted ≡ false
     → ((decimal n ++ (space ∷ [])) ++ decimal ac) ++ ascii " reject " ≡ planText n ac accepted
 reject-text n ac accepted e = rw e (simp append-assoc)
 
-pub lot-text : (line used : ℕ) (c : Closed Plan)
-    → ((decimal line ++ namesText used (c .judged .plan .letter))
+pub lot-text : (line : ℕ) (r : Record) (c : Closed Plan)
+    → ((decimal line ++ namesText (r .severity) (c .judged .plan .letter))
     ++ planText (c .judged .plan .n) (c .judged .plan .ac) (c .judged .verdict .accepted))
     ++ afterText (c .recordAfter .severity) (c .recordAfter .score)
-    ≡ lotLineText line used c
+    ≡ lotText line r c
 unfolding printed
-lot-text line used c = go (c .judged .verdict .accepted)
+lot-text line r c = go (c .judged .verdict .accepted)
   where
     n : ℕ
     n = c .judged .plan .n
 
     go : (t : Bool)
-        → ((decimal line ++ namesText used (c .judged .plan .letter)) ++ planText n (c .judged .plan .ac) t)
+        → ((decimal line ++ namesText (r .severity) (c .judged .plan .letter)) ++ planText n (c .judged .plan .ac) t)
         ++ afterText (c .recordAfter .severity) (c .recordAfter .score)
         ≡ printed (decimal line)
-        (severityName used
+        (severityName (r .severity)
         ∷ letterName (c .judged .plan .letter)
         ∷ decimal n
         ∷ decimal (c .judged .plan .ac)

@@ -14,13 +14,13 @@ use lib.Seq.{drop-cons, getD-drop, drop-drop}
 use borrow.Author.Tests.{le-leb, lt-leb, eq-eqb, ne-eqb}
 use Rattle.rules.specs.Log as log
 use Rattle.rules.specs.Log.{splitAt, space, isDigit, allDigits, valueFrom, valueOf, largestNumber, isNumber}
-use Rattle.rules.specs.Log.{orderLine, unknownLine}
+use Rattle.rules.specs.Log.{digitZero, digitNine, orderLine, unknownLine}
 use Rattle.rules.specs.Feeding.{upTo}
 use Rattle.rules.proofs.Bounded.{by-le}
 use Rattle.rules.proofs.LineForms.{restAt, split-first}
 use Rattle.lotlines.specs.Reading.{upToFrom, fieldFrom, Digits, fieldsFrom, numbersThen, orderOf}
-use Rattle.lotlines.specs.declared.Field.{Field}
-use Rattle.lotlines.specs.declared.Field.the-variants.{Number, Other}
+use Rattle.lotlines.specs.declared.lines.Field.{Field}
+use Rattle.lotlines.specs.declared.lines.Field.the-variants.{Number, Other}
 
 -- a field's test
 pub and-false : (a : Bool) → a && false ≡ false
@@ -44,11 +44,12 @@ no-bytes : (f : List ℕ) → length f ≡ 0 → isNumber f ≡ false
 unfolding isNumber
 no-bytes f e = simp (eq-eqb (length f) 0 e)
 
-zero-led : (f : List ℕ) → 1 < length f → getD f 0 0 ≡ 48 → isNumber f ≡ false
+zero-led : (f : List ℕ) → 1 < length f → getD f 0 0 ≡ digitZero → isNumber f ≡ false
 unfolding isNumber
-zero-led f h e = simp (ne-eqb (length f) 1 (λ q. omega arith), eq-eqb (getD f 0 0) 48 e, and-false)
+zero-led f h e = simp (ne-eqb (length f) 1 (λ q. omega arith), eq-eqb (getD f 0 0) digitZero e, and-false)
 
-is-number : (f : List ℕ) → 0 < length f → allDigits f ≡ true → eqb (length f) 1 || not (eqb (getD f 0 0) 48) ≡ true
+is-number : (f : List ℕ) → 0 < length f → allDigits f ≡ true
+    → eqb (length f) 1 || not (eqb (getD f 0 0) digitZero) ≡ true
     → valueOf f ≤ largestNumber → isNumber f ≡ true
 unfolding isNumber
 is-number f h d z v = simp (ne-eqb (length f) 0 (λ q. omega arith), d, z, le-leb (valueOf f) largestNumber v)
@@ -103,7 +104,7 @@ reads-first line from = record { goes = refl; digits = refl; worth = refl; fits 
 value-least : (v : ℕ) (bs : List ℕ) → v ≤ valueFrom v bs
 unfolding valueFrom
 value-least v [] = omega arith
-value-least v (b ∷ bs) = le-trans (omega arith) (value-least (10 * v + (b - 48)) bs)
+value-least v (b ∷ bs) = le-trans (omega arith) (value-least (10 * v + (b - digitZero)) bs)
 
 reads-whole : {line : List ℕ} {from i value : ℕ} → Reads line from i value → upToFrom line i ≡ []
     → Digits line from i value
@@ -133,35 +134,37 @@ module _ {line : List ℕ} {from i value : ℕ} (r : Reads line from i value) wh
   bad-byte h s e =
       other (no-digits (upToFrom line from) (r .digits ∙ ap allDigits (at-byte line i h s) ∙ rw e refl))
 
-  pub reads-low : i < length line → (getD line i 0 ≡ space → ⊥) → getD line i 0 < 48 → Other ≡ fieldFrom line from
-  reads-low h s l = bad-byte h s (simp (lt-leb 48 (getD line i 0) l))
+  pub reads-low : i < length line → (getD line i 0 ≡ space → ⊥) → getD line i 0 < digitZero
+      → Other ≡ fieldFrom line from
+  reads-low h s l = bad-byte h s (simp (lt-leb digitZero (getD line i 0) l))
 
-  pub reads-high : i < length line → (getD line i 0 ≡ space → ⊥) → 57 < getD line i 0 → Other ≡ fieldFrom line from
-  reads-high h s l = bad-byte h s (simp (lt-leb (getD line i 0) 57 l, and-false))
+  pub reads-high : i < length line → (getD line i 0 ≡ space → ⊥) → digitNine < getD line i 0
+      → Other ≡ fieldFrom line from
+  reads-high h s l = bad-byte h s (simp (lt-leb (getD line i 0) digitNine l, and-false))
 
   value-after : i < length line → (getD line i 0 ≡ space → ⊥)
-      → valueOf (upToFrom line from) ≡ valueFrom (10 * value + (getD line i 0 - 48)) (upToFrom line (i + 1))
+      → valueOf (upToFrom line from) ≡ valueFrom (10 * value + (getD line i 0 - digitZero)) (upToFrom line (i + 1))
   unfolding valueFrom
   value-after h s = r .worth ∙ ap (valueFrom value) (at-byte line i h s)
 
   pub reads-over : i < length line → (getD line i 0 ≡ space → ⊥)
-      → largestNumber < 10 * value + (getD line i 0 - 48) → Other ≡ fieldFrom line from
+      → largestNumber < 10 * value + (getD line i 0 - digitZero) → Other ≡ fieldFrom line from
   reads-over h s o =
       other
       (over-largest (upToFrom line from)
       (rw (value-after h s)
-      (omega (arith, value-least (10 * value + (getD line i 0 - 48)) (upToFrom line (i + 1))))))
+      (omega (arith, value-least (10 * value + (getD line i 0 - digitZero)) (upToFrom line (i + 1))))))
 
-  pub reads-more : i < length line → (getD line i 0 ≡ space → ⊥) → 48 ≤ getD line i 0 → getD line i 0 ≤ 57
-      → 10 * value + (getD line i 0 - 48) ≤ largestNumber
-      → Reads line from (i + 1) (10 * value + (getD line i 0 - 48))
+  pub reads-more : i < length line → (getD line i 0 ≡ space → ⊥) → digitZero ≤ getD line i 0 → getD line i 0 ≤ digitNine
+      → 10 * value + (getD line i 0 - digitZero) ≤ largestNumber
+      → Reads line from (i + 1) (10 * value + (getD line i 0 - digitZero))
   unfolding allDigits
   reads-more h s low high fits =
       record {
         goes = omega (arith, r .goes, ap length (at-byte line i h s));
         digits =
             r .digits ∙ ap allDigits (at-byte line i h s)
-            ∙ simp (le-leb 48 (getD line i 0) low, le-leb (getD line i 0) 57 high);
+            ∙ simp (le-leb digitZero (getD line i 0) low, le-leb (getD line i 0) digitNine high);
         worth = value-after h s;
         fits = fits;
       }
@@ -175,7 +178,7 @@ module _ {line : List ℕ} {from end value : ℕ} (d : Digits line from end valu
   pub digits-within : from < end → end ≤ length line
   digits-within h = omega (arith, d .goes, within line from)
 
-  pub digits-led : from + 1 < end → getD line from 0 ≡ 48 → Other ≡ fieldFrom line from
+  pub digits-led : from + 1 < end → getD line from 0 ≡ digitZero → Other ≡ fieldFrom line from
   unfolding fieldFrom
   digits-led h e =
       rw
@@ -183,7 +186,8 @@ module _ {line : List ℕ} {from end value : ℕ} (d : Digits line from end valu
       (first-byte line from (omega (arith, d .goes)) ∙ e))
       refl
 
-  given-number : from < end → eqb (length (upToFrom line from)) 1 || not (eqb (getD (upToFrom line from) 0 0) 48) ≡ true
+  given-number : from < end
+      → eqb (length (upToFrom line from)) 1 || not (eqb (getD (upToFrom line from) 0 0) digitZero) ≡ true
       → Number value (end + 1) ≡ fieldFrom line from
   unfolding fieldFrom
   given-number h z =
@@ -196,11 +200,11 @@ module _ {line : List ℕ} {from end value : ℕ} (d : Digits line from end valu
   digits-single h s =
       given-number h (simp (eq-eqb (length (upToFrom line from)) 1 (omega (arith, d .goes))))
 
-  pub digits-many : from < end → (getD line from 0 ≡ 48 → ⊥) → Number value (end + 1) ≡ fieldFrom line from
+  pub digits-many : from < end → (getD line from 0 ≡ digitZero → ⊥) → Number value (end + 1) ≡ fieldFrom line from
   digits-many h z =
       given-number h
       (simp
-      (ne-eqb (getD (upToFrom line from) 0 0) 48
+      (ne-eqb (getD (upToFrom line from) 0 0) digitZero
       (λ q. z (sym (first-byte line from (omega (arith, d .goes))) ∙ q)))
       (or-true (eqb (length (upToFrom line from)) 1)))
 

@@ -5,28 +5,21 @@ use mathlib.Core.Bool.{cond}
 use mathlib.Core.List.{List, [], _∷_}
 use lib.Dec.{leb, ltb}
 use lib.ListN.{length, take, set, replicate}
-use Rattle.rules.specs.Single.{Plan}
-use Rattle.rules.specs.Entries.{Closed}
-use Rattle.rules.specs.History.{ours}
+use Rattle.rules.specs.History.{Work}
 use Rattle.rules.specs.Log as log
 use Rattle.rules.specs.Log.{newline}
 use Rattle.rules.specs.Feeding.{Begun, soFar, tooLong, longestLine, Held, holding, starting, fed, upTo}
 use Rattle.severity.specs.declared.Record.{Record}
-use Rattle.severity.specs.Paper.{paperRecord}
-use Rattle.sentencing.specs.declared.SingleClosed.{SingleClosed}
-use Rattle.sentencing.specs.Paper.{judgedPaper}
+use Rattle.severity.specs.Paper.{recordPaper}
 use Rattle.lotlines.specs.declared.Logged.{Logged}
 use Rattle.lotlines.specs.declared.State.{State}
 use Rattle.lotlines.specs.declared.Fed.{Fed}
 use Rattle.lotlines.specs.declared.Gathered.{Gathered}
 use Rattle.lotlines.specs.Printing.{Puts}
 
-abbrev pub closedOf : SingleClosed → Closed Plan
-closedOf c = record { judged = judgedPaper (c .judged); recordAfter = paperRecord (c .«record_after») }
-
 -- a line's record and text, the text in the lent array
 pub record Logs (l : log.Logged) (out last : List ℕ) (r : Logged) : Type 0 where
-  pub held : paperRecord (r .supply) ≡ l .held
+  pub held : recordPaper (r .supply) ≡ l .held
   pub shown : Puts 0 (l .text) out last (r .written)
 
 -- the unfinished line: so many of the kept bytes, or too long
@@ -34,19 +27,19 @@ abbrev pub begunOf : ℕ → List ℕ → Begun
 begunOf n bytes = cond (leb n longestLine) (soFar (take n bytes)) tooLong
 
 abbrev pub heldOf : Record → ℕ → ℕ → List ℕ → Held
-heldOf supply line n bytes = holding (paperRecord supply) line (begunOf n bytes)
+heldOf supply line n bytes = holding (recordPaper supply) line (begunOf n bytes)
 
-abbrev pub paperHeld : State → Held
-paperHeld s = heldOf (s .supply) (s .line) (s .length) (s .bytes)
+abbrev pub heldPaper : State → Held
+heldPaper s = heldOf (s .supply) (s .line) (s .length) (s .bytes)
 
-pub record Starts (r : State) : Type 0 where
-  pub held : paperHeld r ≡ starting ours
+pub record Starts (w : Work) (r : State) : Type 0 where
+  pub held : heldPaper r ≡ starting w
   pub long : r .length ≡ 0
-  pub kept : r .bytes ≡ replicate 45 0
+  pub kept : r .bytes ≡ replicate longestLine 0
 
 -- one byte more, where there is room
 abbrev pub lengthWith : ℕ → ℕ
-lengthWith n = cond (ltb n longestLine) (suc n) 46
+lengthWith n = cond (ltb n longestLine) (suc n) (suc longestLine)
 
 abbrev pub bytesWith : ℕ → List ℕ → ℕ → List ℕ
 bytesWith n bytes b = cond (ltb n longestLine) (set bytes n b) bytes
@@ -67,10 +60,10 @@ pub record Gathers (n : ℕ) (bytes piece last : List ℕ) (r : Gathered) : Type
 
 -- feed's whole promise: what is held, taken and printed, with the rest of the lent array as it was, and the state's own
 -- figures: a finished line leaves length 0, and the kept bytes stay where they are
-pub record Feeds (s : State) (piece out last : List ℕ) (r : Fed) : Type 0 where
-  pub held : paperHeld (r .state) ≡ fed ours (paperHeld s) piece .kept
-  pub taken : r .taken ≡ fed ours (paperHeld s) piece .taken
-  pub shown : Puts 0 (fed ours (paperHeld s) piece .text) out last (r .written)
+pub record Feeds (w : Work) (s : State) (piece out last : List ℕ) (r : Fed) : Type 0 where
+  pub held : heldPaper (r .state) ≡ fed w (heldPaper s) piece .kept
+  pub taken : r .taken ≡ fed w (heldPaper s) piece .taken
+  pub shown : Puts 0 (fed w (heldPaper s) piece .text) out last (r .written)
   pub long :
       r .state .length
       ≡ cond (ltb (length (upTo newline piece)) (length piece)) 0 (lengthAfter (s .length) (upTo newline piece))

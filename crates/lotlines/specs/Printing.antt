@@ -8,19 +8,29 @@ use lib.Seq.{sets}
 use Rattle.rules.specs.Ascii.{ascii}
 use Rattle.rules.specs.Single.{Plan}
 use Rattle.rules.specs.Entries.{Closed}
-use Rattle.rules.specs.Log.{decimal, printed, severityName, letterName, verdictName, space, newline}
+use Rattle.rules.specs.Codes.{letterNames}
+use Rattle.rules.specs.Log.{decimal, space, newline}
+use Rattle.plans.specs.declared.SinglePlan.{SinglePlan}
+use Rattle.plans.specs.Paper.{planPaper, verdictPaper}
+use Rattle.severity.specs.Paper.{eventPaper, recordPaper}
+use Rattle.closing.specs.declared.Closed as closing
+use Rattle.closing.specs.Paper.{judgedOn}
+
+-- the lent array's length
+abbrev pub lineRoom : ℕ
+lineRoom = 50
 
 -- A run of bytes stored from a place on: the place after it, and the whole array, the rest of which stays. It fits.
 pub record Puts (at : ℕ) (text out last : List ℕ) (r : ℕ) : Type 0 where
   pub next : r ≡ at + length text
   pub stored : last ≡ sets out at text
-  pub fits : r ≤ 50
+  pub fits : r ≤ lineRoom
 
 abbrev pub severityByte : ℕ → ℕ
 severityByte severity = getD (ascii "NTRX") severity 0
 
 abbrev pub letterByte : ℕ → ℕ
-letterByte letter = getD (ascii "ABCDEFGHJKLMNPQRS") letter 0
+letterByte letter = getD letterNames letter 0
 
 abbrev pub afterText : ℕ → ℕ → List ℕ
 afterText severity score = severityByte severity ∷ space ∷ (decimal score ++ (newline ∷ []))
@@ -31,20 +41,11 @@ namesText severity letter = space ∷ severityByte severity ∷ space ∷ letter
 abbrev pub planText : ℕ → ℕ → Bool → List ℕ
 planText n ac accepted = decimal n ++ (space ∷ (decimal ac ++ cond accepted (ascii " accept ") (ascii " reject ")))
 
--- the text of an order's line, by the record's two figures
-abbrev pub orderLineText : ℕ → ℕ → ℕ → List ℕ
-orderLineText line severity score =
-    printed (decimal line) (ascii "order" ∷ severityName severity ∷ decimal score ∷ [])
-
--- the text of a lot's line, by the severity used
-abbrev pub lotLineText : ℕ → ℕ → Closed Plan → List ℕ
-lotLineText line used c =
-    printed (decimal line)
-    (severityName used
-    ∷ letterName (c .judged .plan .letter)
-    ∷ decimal (c .judged .plan .n)
-    ∷ decimal (c .judged .plan .ac)
-    ∷ verdictName (c .judged .verdict .accepted)
-    ∷ severityName (c .recordAfter .severity)
-    ∷ decimal (c .recordAfter .score)
-    ∷ [])
+-- a lot that was closed on a plan
+abbrev pub closedPlan : SinglePlan → closing.Closed → Closed Plan
+closedPlan plan c =
+    record {
+      judged = judgedOn (planPaper plan) (verdictPaper (c .verdict));
+      event = eventPaper (c .event);
+      recordAfter = recordPaper (c .«record_after»);
+    }

@@ -9,16 +9,16 @@ use Rattle.rules.specs.Log as log
 use Rattle.rules.specs.Log.{splitAt, space, isNumber, valueOf, allDigits, largestNumber, lotLine, orderLine}
 use Rattle.rules.specs.Log.{unknownLine}
 use Rattle.rules.specs.Feeding.{upTo}
-use Rattle.lotlines.specs.declared.Line.{Line}
-use Rattle.lotlines.specs.declared.Line.the-variants.{Lot, Order, Unknown}
-use Rattle.lotlines.specs.declared.Field.{Field}
-use Rattle.lotlines.specs.declared.Field.the-variants.{Number, Other}
+use Rattle.closing.specs.Paper.{offeredPaper}
+use Rattle.lotlines.specs.declared.lines.Line.{Line}
+use Rattle.lotlines.specs.declared.lines.Line.the-variants.{Lot, Order, Unknown}
+use Rattle.lotlines.specs.declared.lines.Field.{Field}
+use Rattle.lotlines.specs.declared.lines.Field.the-variants.{Number, Other}
 
-abbrev pub paperLine : Line → log.Line
-paperLine (Lot again size level column total) =
-    lotLine (record { again = again; size = size; level = level; column = column }) total
-paperLine (Order byte) = orderLine byte
-paperLine Unknown = unknownLine
+abbrev pub linePaper : Line → log.Line
+linePaper (Lot lot total) = lotLine (offeredPaper lot) total
+linePaper (Order byte) = orderLine byte
+linePaper Unknown = unknownLine
 
 -- the field that starts at a place, empty past the end
 abbrev pub upToFrom : List ℕ → ℕ → List ℕ

@@ -3,21 +3,26 @@
 use Prim.Native.Nat.{ℕ, _+_, _-_, _≤_, _<_}
 use native.Mathlib.Omega.{arith}
 use mathlib.Core.Path.{_≡_, refl, ap, sym, _∙_}
-use mathlib.Core.Bool.{Bool, true, false, cond}
-use mathlib.Core.List.{List, [], _∷_, _++_, append-nil, append-assoc}
+use mathlib.Core.Bool.{Bool, true, false}
+use mathlib.Core.List.{List, [], _∷_, _++_, append-assoc}
 use lib.Dec.{eqb}
 use lib.ListN.{length, take, drop, take-append-drop, length-drop}
 use lib.Seq.{drop-drop}
-use Rattle.rules.specs.History.{Work}
+use Rattle.rules.specs.History.{Work, ours}
 use Rattle.rules.specs.Log.{newline, header, log}
-use Rattle.rules.specs.Feeding.{Held, holding, oneMore, afterLine, starting, fed, tookIn, saidIn}
+use Rattle.rules.specs.Feeding.{Held, holding, oneMore, afterLine, starting, fed, finished, tookIn}
+use Rattle.rules.specs.Feeding.{saidIn}
 use Rattle.rules.proofs.Feeding.{any-calls, some-taken, taken-within}
-use Rattle.lotstream.specs.Turns.{onwards, Logs}
+use Rattle.lotlines.specs.declared.State.{State}
+use Rattle.lotlines.specs.declared.Fed.{Fed}
+use Rattle.lotlines.specs.Printing.{Puts}
+use Rattle.lotlines.specs.Paper.{Feeds}
+use Rattle.lotstream.specs.Turns.{singly, onwards, Logs}
 use Rattle.lotstream.specs.declared.Turn.{Turn}
 
 fed-onwards : (w : Work) (s : Held) (p q : List ℕ)
     → onwards w s (take (fed w s p .taken) p ++ q) ≡ fed w s p .text ++ onwards w (fed w s p .kept) q
-unfolding fed onwards
+unfolding fed saidIn singly
 fed-onwards w s [] q = refl
 fed-onwards w s (b ∷ bs) q =
     go (eqb b newline) refl (fed-onwards w (holding (s .supply) (s .line) (oneMore (s .begun) b)) bs q)
@@ -56,36 +61,29 @@ line-taken w s piece part at e h =
     let long : length part ≡ length piece - at = ap length e ∙ length-drop at piece in
     (some-taken w s part (omega (arith, long)), omega (arith, long, taken-within w s part))
 
-said-onwards : (w : Work) (s : Held) (ps : List (List ℕ)) → saidIn w s ps ≡ onwards w s (tookIn w s ps)
-unfolding saidIn tookIn onwards
-said-onwards w s [] = refl
-said-onwards w s (p ∷ ps) =
-    ap (λ (l : List ℕ). fed w s p .text ++ l) (said-onwards w (fed w s p .kept) ps)
-    ∙ sym (fed-onwards w s p (tookIn w (fed w s p .kept) ps))
-
--- a byte a call
-bytes : List ℕ → List (List ℕ)
-bytes [] = []
-bytes (b ∷ bs) = (b ∷ []) ∷ bytes bs
-
-took-bytes : (w : Work) (s : Held) (l : List ℕ) → tookIn w s (bytes l) ≡ l
-unfolding tookIn fed bytes
+took-bytes : (w : Work) (s : Held) (l : List ℕ) → tookIn w s (singly l) ≡ l
+unfolding tookIn fed singly
 took-bytes w s [] = refl
 took-bytes w s (b ∷ bs) = go (eqb b newline) refl (λ t. took-bytes w t bs)
   where
-    go : (t : Bool) → eqb b newline ≡ t → ((q : Held) → tookIn w q (bytes bs) ≡ bs)
-        → tookIn w s (bytes (b ∷ bs)) ≡ b ∷ bs
+    go : (t : Bool) → eqb b newline ≡ t → ((q : Held) → tookIn w q (singly bs) ≡ bs)
+        → tookIn w s (singly (b ∷ bs)) ≡ b ∷ bs
     go true e h = simp e (ap (λ (l : List ℕ). b ∷ l) (h (afterLine w s)))
     go false e h =
         simp e (ap (λ (l : List ℕ). b ∷ l) (h (holding (s .supply) (s .line) (oneMore (s .begun) b))))
 
 -- from the start: the whole log
 pub all-onwards : (w : Work) (input : List ℕ) → header ++ onwards w (starting w) input ≡ log w input
-all-onwards w input =
-    ap (λ (l : List ℕ). header ++ onwards w (starting w) l) (sym (took-bytes w (starting w) input))
-    ∙ ap (λ (l : List ℕ). header ++ l) (sym (said-onwards w (starting w) (bytes input)))
-    ∙ any-calls w (bytes input)
-    ∙ ap (log w) (took-bytes w (starting w) input)
+all-onwards w input = any-calls w (singly input) ∙ ap (log w) (took-bytes w (starting w) input)
+
+-- Our work, by its name.
+pub feeds-ours : {w : Work} {s : State} {piece out last : List ℕ} {r : Fed} → w ≡ ours → Feeds w s piece out last r
+    → Feeds ours s piece out last r
+feeds-ours e f = rw e at f
+
+pub finishes-ours : {w : Work} (s : Held) {out last : List ℕ} {r : ℕ} → w ≡ ours
+    → Puts 0 (finished w s) out last r → Puts 0 (finished ours s) out last r
+finishes-ours s e p = rw e at p
 
 pub all-same : (w : Work) (s : Held) (waits : List ℕ) → s ≡ starting w → waits ≡ header → (input : List ℕ)
     → waits ++ onwards w s input ≡ log w input

@@ -6,10 +6,10 @@ use mathlib.Core.Path.{_≡_, ap, _∙_}
 use mathlib.Core.List.{List, _++_}
 use lib.ListN.{length, take, drop, drop-of-length-le, length-append}
 use lib.Seq.{sets, sets-eq, length-sets, length-take-le, take-at}
-use Rattle.lotlines.specs.Printing.{Puts}
+use Rattle.lotlines.specs.Printing.{lineRoom, Puts}
 use Rattle.lotstream.specs.Turns.{PutAfter}
 
-module _ {text out last : List ℕ} {r : ℕ} (p : Puts 0 text out last r) (e : length out ≡ 50) where
+module _ {text out last : List ℕ} {r : ℕ} (p : Puts 0 text out last r) (e : length out ≡ lineRoom) where
   pub within-line : r ≤ length last
   within-line = omega (arith, p .fits, ap length (p .stored), length-sets out 0 text)
 
@@ -29,8 +29,8 @@ put-done out last text waiting i h l e =
     record { next = omega arith; stored = rw (drop-of-length-le text l) at e }
 
 -- A line that was put whole behind what waits: then its text waits too.
-pub put-line : {waiting r n : ℕ} {text line put out last : List ℕ} → Puts 0 text line put n → length line ≡ 50
-    → waiting + 50 ≤ length out → PutAfter waiting (take n put) out last r
+pub put-line : {waiting r n : ℕ} {text line put out last : List ℕ} → Puts 0 text line put n → length line ≡ lineRoom
+    → waiting + lineRoom ≤ length out → PutAfter waiting (take n put) out last r
     → (take r last ≡ take waiting out ++ text) × (r ≤ length out)
 put-line {waiting} {r} {n} {text} {line} {put} {out} {last} shown e room after = (
   ap (take r) (stored ∙ sets-eq text out waiting fits)

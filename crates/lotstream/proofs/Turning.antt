@@ -1,6 +1,6 @@
 -- A turn, by each of its ends: what was to be written is what it writes and what is to be written after it.
 -- Assumes nothing.
-use Prim.Native.Nat.{ℕ, _+_, _≤_, _<_}
+use Prim.Native.Nat.{ℕ, _+_, _≤_}
 use native.Mathlib.Omega.{arith}
 use mathlib.Core.Path.{_≡_, refl, ap, sym, subst, _∙_}
 use mathlib.Core.Bool.{Bool, true, false, cond}
@@ -9,18 +9,20 @@ use lib.Dec.{T, ltb}
 use lib.ListN.{length, take, drop}
 use lib.Seq.{drop-nil}
 use Rattle.rules.specs.History.{ours}
-use Rattle.rules.specs.Feeding.{Held, finished}
+use Rattle.rules.specs.Feeding.{Held, finished, saidIn}
 use Rattle.lotlines.specs.declared.State.{State}
-use Rattle.lotlines.specs.Paper.{paperHeld}
-use Rattle.lotstream.specs.Turns.{Opened, onwards, waits, left, toCome, Logs, LastPut, Written, brought, Got}
-use Rattle.lotstream.specs.Runs.{Scene, scene, Fits, writes, reads, unwritten, Turned, Ran, Running, Runs}
+use Rattle.lotlines.specs.Printing.{lineRoom}
+use Rattle.lotlines.specs.Paper.{heldPaper}
+use Rattle.lotstream.specs.Turns.{Opened, singly, onwards, waits, left, toCome, Logs, LastPut, Written, brought, Got}
+use Rattle.lotstream.specs.Runs.{leastRoom, Scene, scene, Fits, writes, reads, unwritten, Turned, Ran, Running}
+use Rattle.lotstream.specs.Runs.{Runs}
 use Rattle.lotstream.specs.declared.Turn.{Turn}
 
 never : {A : Type 0} {b : Bool} → b ≡ true → b ≡ false → A
 never t f = absurd (subst T (sym t ∙ f) tt)
 
 none-onwards : (s : Held) → onwards ours s [] ≡ finished ours s
-unfolding onwards
+unfolding saidIn singly
 none-onwards s = refl
 
 module _ {t : Turn} {input out : List ℕ} (first : Fits (scene t input out)) {sent : Turn} (w : Written t sent) where
@@ -84,18 +86,18 @@ module _ {t : Turn} {input out : List ℕ} (first : Fits (scene t input out)) {s
     -- what was to be written
     was-left : (r : Turn) (last : List ℕ) → r .length ≡ got .length → (more : List ℕ)
         → unwritten (scene t input out) (reads (scene t input out) (scene r read last) ++ more)
-        ≡ waits t out ++ onwards ours (paperHeld (got .state)) (left got (take (got .length) read) ++ more)
+        ≡ waits t out ++ onwards ours (heldPaper (got .state)) (left got (take (got .length) read) ++ more)
     was-left r last e more =
         ap
         (λ (b : Bool). waits t out
         ++ cond b []
-        (onwards ours (paperHeld (t .state))
+        (onwards ours (heldPaper (t .state))
         (left t (take (t .length) input) ++ (cond b [] (brought t r read) ++ more))))
         begun
-        ∙ ap (λ (l : List ℕ). waits t out ++ onwards ours (paperHeld (t .state)) l) (now-left r e more)
+        ∙ ap (λ (l : List ℕ). waits t out ++ onwards ours (heldPaper (t .state)) l) (now-left r e more)
         ∙ ap
         (λ (s : State). waits t out
-        ++ onwards ours (paperHeld s) (left got (take (got .length) read) ++ more))
+        ++ onwards ours (heldPaper s) (left got (take (got .length) read) ++ more))
         (sym (g .state ∙ w .state))
 
     -- the read failed
@@ -129,20 +131,20 @@ module _ {t : Turn} {input out : List ℕ} (first : Fits (scene t input out)) {s
           gone : left got (take (got .length) read) ≡ []
           gone = ap (λ (n : ℕ). left got (take n read)) (g .over e o) ∙ drop-nil (got .taken)
 
-          ends : onwards ours (paperHeld (got .state)) (left got (take (got .length) read) ++ [])
-              ≡ finished ours (paperHeld (got .state))
+          ends : onwards ours (heldPaper (got .state)) (left got (take (got .length) read) ++ [])
+              ≡ finished ours (heldPaper (got .state))
           ends =
-              ap (λ (z : List ℕ). onwards ours (paperHeld (got .state)) (z ++ [])) gone
-              ∙ none-onwards (paperHeld (got .state))
+              ap (λ (z : List ℕ). onwards ours (heldPaper (got .state)) (z ++ [])) gone
+              ∙ none-onwards (heldPaper (got .state))
 
-          text : waits r last ≡ finished ours (paperHeld (got .state))
-          text = l .text ∙ ap (λ (n : ℕ). take n out ++ finished ours (paperHeld (got .state))) none
+          text : waits r last ≡ finished ours (heldPaper (got .state))
+          text = l .text ∙ ap (λ (n : ℕ). take n out ++ finished ours (heldPaper (got .state))) none
 
           after : unwritten (scene r read last) [] ≡ waits r last
           after =
               ap
               (λ (b : Bool). waits r last
-              ++ cond b [] (onwards ours (paperHeld (r .state)) (left r (take (r .length) read) ++ [])))
+              ++ cond b [] (onwards ours (heldPaper (r .state)) (left r (take (r .length) read) ++ [])))
               (l .over ∙ e)
               ∙ append-nil (waits r last)
 
@@ -157,7 +159,7 @@ module _ {t : Turn} {input out : List ℕ} (first : Fits (scene t input out)) {s
 
       -- lines of the piece
       pub more-lines : got .over ≡ false → Logs got (take (got .length) read) out last r
-          → (r .waiting + 50 ≤ length out → r .taken ≡ length (take (got .length) read))
+          → (r .waiting + lineRoom ≤ length out → r .taken ≡ length (take (got .length) read))
           → got .length ≡ length (take (got .length) read)
           → Turned (scene t input out) (scene r read last)
       more-lines e l all long =
@@ -179,19 +181,19 @@ module _ {t : Turn} {input out : List ℕ} (first : Fits (scene t input out)) {s
           after more =
               ap
               (λ (b : Bool). waits r last
-              ++ cond b [] (onwards ours (paperHeld (r .state)) (left r (take (r .length) read) ++ more)))
+              ++ cond b [] (onwards ours (heldPaper (r .state)) (left r (take (r .length) read) ++ more)))
               (l .over ∙ e)
               ∙ ap
-              (λ (n : ℕ). waits r last ++ onwards ours (paperHeld (r .state)) (left r (take n read) ++ more))
+              (λ (n : ℕ). waits r last ++ onwards ours (heldPaper (r .state)) (left r (take n read) ++ more))
               (l .long)
 
           empty : (more : List ℕ)
               → toCome got (take (got .length) read) out more
-              ≡ onwards ours (paperHeld (got .state)) (left got (take (got .length) read) ++ more)
+              ≡ onwards ours (heldPaper (got .state)) (left got (take (got .length) read) ++ more)
           empty more =
               ap
               (λ (n : ℕ). take n out
-              ++ onwards ours (paperHeld (got .state)) (left got (take (got .length) read) ++ more))
+              ++ onwards ours (heldPaper (got .state)) (left got (take (got .length) read) ++ more))
               none
 
           account : (more : List ℕ)
@@ -202,7 +204,7 @@ module _ {t : Turn} {input out : List ℕ} (first : Fits (scene t input out)) {s
               ∙ ap (λ (q : List ℕ). waits t out ++ q) (sym (after more ∙ l .same more ∙ empty more))
 
 -- The first turn of a run, a turn more, and the run that ends with it.
-pub run-opened : {r : Turn} {input out : List ℕ} → Opened out r → 100 ≤ length out → Running (scene r input out)
+pub run-opened : {r : Turn} {input out : List ℕ} → Opened out r → leastRoom ≤ length out → Running (scene r input out)
 unfolding Ran
 run-opened o h =
     record {
@@ -225,11 +227,11 @@ module _ {before now : Scene} (run : Running before) (turned : Turned before now
   pub run-more : now .turn .failed ≡ false → Running now
   run-more f = record { past = before ∷ run .past; ran = ran-more; going = f; fits = turned .fits }
 
-pub runs-now : {r : Turn} {input out read put : List ℕ} → 100 ≤ length out → Running (scene r read put)
+pub runs-now : {r : Turn} {input out read put : List ℕ} → leastRoom ≤ length out → Running (scene r read put)
     → Runs input out read put r
 runs-now h run = record { small = λ l. absurd (omega arith); ran = λ _. (run .past, run .ran) }
 
-pub runs-more : {t r : Turn} {input out readFrom putIn read put : List ℕ} → 100 ≤ length out
+pub runs-more : {t r : Turn} {input out readFrom putIn read put : List ℕ} → leastRoom ≤ length out
     → Running (scene t readFrom putIn) → Turned (scene t readFrom putIn) (scene r read put)
     → Runs input out read put r
 runs-more {t} {readFrom = readFrom} {putIn = putIn} h run turned =

@@ -2,13 +2,12 @@
 -- Assumes nothing.
 use Prim.Native.Nat.{ℕ}
 use mathlib.Core.Path.{_≡_, refl, ap, sym, _∙_}
-use mathlib.Core.Bool.{Bool, true, false, cond}
+use mathlib.Core.Bool.{true, false}
 use mathlib.Core.List.{List, [], _∷_, _++_, append-nil, append-assoc}
-use lib.ListN.{take}
 use Rattle.rules.specs.History.{ours}
 use Rattle.rules.specs.Log.{log}
 use Rattle.lotstream.specs.Turns.{Opened}
-use Rattle.lotstream.specs.Runs.{Scene, writes, reads, unwritten, Turned, Ran, readIn, wroteIn}
+use Rattle.lotstream.specs.Runs.{Scene, writes, reads, unwritten, Ran, readIn, wroteIn}
 
 opened : (now : Scene) → Opened (now .output) (now .turn) → (more : List ℕ) → unwritten now more ≡ log ours more
 opened now o more = rw (o .over, o .long, o .taken) (rw (o .taken) at (o .whole more))

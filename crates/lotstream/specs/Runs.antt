@@ -1,14 +1,18 @@
 -- A run, turn by turn: the bytes that its reads brought, and those that its writes were handed. Definitions only.
 use Prim.Native.Nat.{ℕ, _+_, _<_, _≤_}
 use mathlib.Core.Path.{_≡_}
-use mathlib.Core.Bool.{Bool, true, false, cond}
+use mathlib.Core.Bool.{true, false, cond}
 use mathlib.Core.List.{List, [], _∷_, _++_}
-use lib.Dec.{ltb}
 use lib.ListN.{length, take}
 use Rattle.rules.specs.History.{ours}
-use Rattle.lotlines.specs.Paper.{paperHeld}
+use Rattle.lotlines.specs.Printing.{lineRoom}
+use Rattle.lotlines.specs.Paper.{heldPaper}
 use Rattle.lotstream.specs.Turns.{Opened, onwards, waits, left, brought}
 use Rattle.lotstream.specs.declared.Turn.{Turn}
+
+-- the least output to work in: room for the header, and for another line
+abbrev pub leastRoom : ℕ
+leastRoom = 100
 
 -- a turn, and the lent memory then
 pub record Scene : Type 0 where
@@ -23,7 +27,7 @@ pub record Fits (s : Scene) : Type 0 where
   pub taken : s .turn .taken ≤ s .turn .length
   pub long : s .turn .length ≤ length (s .input)
   pub waiting : s .turn .waiting ≤ length (s .output)
-  pub room : 100 ≤ length (s .output)
+  pub room : leastRoom ≤ length (s .output)
 
 -- what a turn writes first: all that waits
 abbrev pub writes : Scene → List ℕ
@@ -38,7 +42,7 @@ abbrev pub unwritten : Scene → List ℕ → List ℕ
 unwritten s more =
     writes s
     ++ cond (s .turn .over) []
-    (onwards ours (paperHeld (s .turn .state)) (left (s .turn) (take (s .turn .length) (s .input)) ++ more))
+    (onwards ours (heldPaper (s .turn .state)) (left (s .turn) (take (s .turn .length) (s .input)) ++ more))
 
 -- A turn, where no call fails: what was to be written, with what it reads, is what it writes and what is to be written
 -- after it; and the lines of the piece are answered but where another might find no room. Where a call fails, nothing
@@ -48,7 +52,7 @@ pub record Turned (a b : Scene) : Type 0 where
       b .turn .failed ≡ false → (more : List ℕ) → (b .turn .over ≡ true → more ≡ [])
       → unwritten a (reads a b ++ more) ≡ writes a ++ unwritten b more
   pub answered :
-      b .turn .failed ≡ false → b .turn .over ≡ false → b .turn .waiting + 50 ≤ length (b .output)
+      b .turn .failed ≡ false → b .turn .over ≡ false → b .turn .waiting + lineRoom ≤ length (b .output)
       → b .turn .taken ≡ b .turn .length
   pub cut : b .turn .failed ≡ true → b .turn .waiting ≡ 0
   pub stays : a .turn .over ≡ true → b .turn .over ≡ true
@@ -77,5 +81,5 @@ pub record Running (now : Scene) : Type 0 where
 
 -- The whole promise: with too little room nothing is done, else a run of turns ends with the answer.
 pub record Runs (input out inputAfter outAfter : List ℕ) (r : Turn) : Type 0 where
-  pub small : length out < 100 → (inputAfter ≡ input) × (outAfter ≡ out)
-  pub ran : 100 ≤ length out → (past : List Scene) × Ran past (scene r inputAfter outAfter)
+  pub small : length out < leastRoom → (inputAfter ≡ input) × (outAfter ≡ out)
+  pub ran : leastRoom ≤ length out → (past : List Scene) × Ran past (scene r inputAfter outAfter)

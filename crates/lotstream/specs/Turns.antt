@@ -1,8 +1,8 @@
 -- What each step of a turn leaves: what is held, what is left of the piece, and what waits in the output. Definitions
 -- only.
-use Prim.Native.Nat.{ℕ, _+_, _<_, _≤_}
+use Prim.Native.Nat.{ℕ, _+_, _≤_}
 use mathlib.Core.Path.{_≡_}
-use mathlib.Core.Bool.{Bool, true, false, cond}
+use mathlib.Core.Bool.{true, false, cond}
 use mathlib.Core.List.{List, [], _∷_, _++_}
 use lib.Dec.{ltb, eqb}
 use lib.IntN.{ℤ}
@@ -10,9 +10,9 @@ use lib.ListN.{length, take, drop}
 use lib.Seq.{sets}
 use Rattle.io.specs.Counts.{clamped}
 use Rattle.rules.specs.History.{Work, ours}
-use Rattle.rules.specs.Log.{newline, log}
-use Rattle.rules.specs.Feeding.{Held, holding, oneMore, ended, afterLine, finished}
-use Rattle.lotlines.specs.Paper.{paperHeld}
+use Rattle.rules.specs.Log.{log}
+use Rattle.rules.specs.Feeding.{Held, finished, saidIn}
+use Rattle.lotlines.specs.Paper.{heldPaper}
 use Rattle.lotstream.specs.declared.Turn.{Turn}
 
 -- a text stored whole behind what waits, and the rest as it was
@@ -20,12 +20,14 @@ pub record PutAfter (waiting : ℕ) (text out last : List ℕ) (r : ℕ) : Type 
   pub next : r ≡ waiting + length text
   pub stored : last ≡ sets out waiting text
 
+-- a byte a call
+unfoldable pub singly : List ℕ → List (List ℕ)
+singly [] = []
+singly (b ∷ bs) = (b ∷ []) ∷ singly bs
+
 -- the output for all the bytes that are still to come, from what is held
-unfoldable pub onwards : Work → Held → List ℕ → List ℕ
-onwards w s [] = finished w s
-onwards w s (b ∷ bs) =
-    cond (eqb b newline) (ended w s .text ++ onwards w (afterLine w s) bs)
-    (onwards w (holding (s .supply) (s .line) (oneMore (s .begun) b)) bs)
+abbrev pub onwards : Work → Held → List ℕ → List ℕ
+onwards w s bytes = saidIn w s (singly bytes)
 
 abbrev pub waits : Turn → List ℕ → List ℕ
 waits t output = take (t .waiting) output
@@ -35,7 +37,7 @@ left t piece = drop (t .taken) piece
 
 -- what is still to be written: what waits, and the output for the rest of the piece and what comes after it
 abbrev pub toCome : Turn → List ℕ → List ℕ → List ℕ → List ℕ
-toCome t piece output more = waits t output ++ onwards ours (paperHeld (t .state)) (left t piece ++ more)
+toCome t piece output more = waits t output ++ onwards ours (heldPaper (t .state)) (left t piece ++ more)
 
 -- Lines of a piece: what is to be written stays, whatever comes after the piece.
 pub record Logs (t : Turn) (piece out last : List ℕ) (r : Turn) : Type 0 where
@@ -57,7 +59,7 @@ pub record Opened (out : List ℕ) (r : Turn) : Type 0 where
 
 -- The last line: what it prints waits behind what waited.
 pub record LastPut (t : Turn) (out last : List ℕ) (r : Turn) : Type 0 where
-  pub text : waits r last ≡ waits t out ++ finished ours (paperHeld (t .state))
+  pub text : waits r last ≡ waits t out ++ finished ours (heldPaper (t .state))
   pub fits : r .waiting ≤ length out
   pub long : r .length ≡ t .length
   pub taken : r .taken ≡ t .taken

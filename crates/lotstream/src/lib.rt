@@ -3,11 +3,16 @@
 ghost use Prim.Native.Nat.{_+_, _<_, _≤_};
 ghost use mathlib.Core.Path.{_≡_};
 ghost use lib.ListN.{length};
+ghost use Rattle.lotlines.specs.Printing.{lineRoom};
 ghost use Rattle.lotstream.specs.Turns.{PutAfter, Logs, Opened, Written, Taken, Got, LastPut};
-ghost use Rattle.lotstream.specs.Runs.{scene, Fits, Turned, Runs};
+ghost use Rattle.lotstream.specs.Runs.{leastRoom, scene, Fits, Turned, Runs};
 use libc::STDIN_FILENO;
 use libc::STDOUT_FILENO;
+use lotlines::LINE;
 use lotlines::State;
+
+// The least output to work in: the header, and another line.
+const LEAST: usize = 100;
 
 // What is held between turns, how many bytes the piece has and how many of them were taken, how many bytes of the
 // output wait, whether the input has ended, and whether a call failed, which was then said on standard error.
@@ -35,14 +40,14 @@ fn put(output: &mut [u8], waiting: usize, line: &[u8]) -> usize
 
 // One line.
 fn log_line(turn: Turn, piece: &[u8], output: &mut [u8]) -> Turn
-    requires { ⌜ (turn .taken < length (now piece)) × (turn .waiting + 50 ≤ length (now output)) ⌝ }
+    requires { ⌜ (turn .taken < length (now piece)) × (turn .waiting + lineRoom ≤ length (now output)) ⌝ }
     ensures { λ r. ⌜ Logs turn (now (piece .entry)) (now (output .entry)) (now (output .exit)) r
         × (turn .taken < r .taken) ⌝ }
 {
-    let mut line = [0u8; 50];
+    let mut line = [0u8; LINE];
     let held = turn.state;
     let at = turn.taken;
-    let fed = lotlines::feed(held, &piece[at..], &mut line);
+    let fed = lotlines::feed(severity::ours(), held, &piece[at..], &mut line);
     let next = fed.state;
     let written = fed.written;
     let waiting = put(output, turn.waiting, &line[..written]);
@@ -61,11 +66,11 @@ fn log_line(turn: Turn, piece: &[u8], output: &mut [u8]) -> Turn
 fn log_lines(turn: Turn, piece: &[u8], output: &mut [u8]) -> Turn
     requires { ⌜ (turn .taken ≤ length (now piece)) × (turn .waiting ≤ length (now output)) ⌝ }
     ensures { λ r. ⌜ Logs turn (now (piece .entry)) (now (output .entry)) (now (output .exit)) r
-        × (r .waiting + 50 ≤ length (now (output .entry)) → r .taken ≡ length (now (piece .entry))) ⌝ }
+        × (r .waiting + lineRoom ≤ length (now (output .entry)) → r .taken ≡ length (now (piece .entry))) ⌝ }
 {
     let mut done = turn;
     while done.taken < piece.len() {
-        if output.len() < done.waiting + 50 {
+        if output.len() < done.waiting + LINE {
             return done;
         }
         done = log_line(done, piece, output);
@@ -75,14 +80,14 @@ fn log_lines(turn: Turn, piece: &[u8], output: &mut [u8]) -> Turn
 
 // The header is put first.
 fn open_log(output: &mut [u8]) -> Turn
-    requires { ⌜ 100 ≤ length (now output) ⌝ }
+    requires { ⌜ leastRoom ≤ length (now output) ⌝ }
     ensures { λ r. ⌜ Opened (now (output .exit)) r ⌝ }
 {
-    let mut line = [0u8; 50];
+    let mut line = [0u8; LINE];
     let written = lotlines::header(&mut line);
     let filled = put(output, 0, &line[..written]);
     Turn {
-        state: lotlines::start(),
+        state: lotlines::start(severity::ours()),
         length: 0,
         taken: 0,
         waiting: filled,
@@ -93,12 +98,12 @@ fn open_log(output: &mut [u8]) -> Turn
 
 // The last line may lack its newline.
 fn put_last(turn: Turn, output: &mut [u8]) -> Turn
-    requires { ⌜ turn .waiting + 50 ≤ length (now output) ⌝ }
+    requires { ⌜ turn .waiting + lineRoom ≤ length (now output) ⌝ }
     ensures { λ r. ⌜ LastPut turn (now (output .entry)) (now (output .exit)) r ⌝ }
 {
-    let mut line = [0u8; 50];
+    let mut line = [0u8; LINE];
     let held = turn.state;
-    let written = lotlines::finish(held, &mut line);
+    let written = lotlines::finish(severity::ours(), held, &mut line);
     let filled = put(output, turn.waiting, &line[..written]);
     Turn {
         state: held,
@@ -205,13 +210,13 @@ fn next_turn(turn: Turn, input: &mut [u8], output: &mut [u8]) -> Turn
 }
 
 // A proved loop has to end, and nothing says that an input does: the turns count down from a number that no run uses
-// up. The lent memory is only worked in. An output of under 100 bytes has no room, and nothing is read or written.
+// up. The lent memory is only worked in. In too small an output nothing is read or written.
 pub fn run(input: &mut [u8], output: &mut [u8]) -> Turn
     ensures { λ r. ⌜ Runs (now (input .entry)) (now (output .entry)) (now (input .exit)) (now (output .exit)) r ⌝ }
 {
-    if output.len() < 100 {
+    if output.len() < LEAST {
         return Turn {
-            state: lotlines::start(),
+            state: lotlines::start(severity::ours()),
             length: 0,
             taken: 0,
             waiting: 0,

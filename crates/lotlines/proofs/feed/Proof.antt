@@ -2,6 +2,7 @@
 use mathlib.Core.Path.{_≡_, sym, ap, _∙_}
 use Rattle.rules.specs.Feeding.{longestLine}
 use lib.ListN.{length}
+use Rattle.severity.specs.Paper.{workPaper}
 use Rattle.lotlines.proofs.Keeping.{length-after}
 use Rattle.lotlines.proofs.Feeding.{feed-ends, feed-goes-on}
 use borrow.Author.Needs.{needs}
@@ -25,9 +26,6 @@ whole : (c : lts.After-gather (
     → length (c .before .before .before .before .before .args .state .bytes) ≡ longestLine
 whole c = search needs
 
-gather-requires : tie.Need-gather-requires
-gather-requires c κs = search needs
-
 slice-aggregate-end-line : tie.Need-slice-aggregate-end-line
 slice-aggregate-end-line c = sym (ap length (c .before .before .gather .ensures .kept) ∙ length-after _ _ _ ∙ search
     needs)
@@ -36,33 +34,22 @@ end-line-requires : tie.Need-end-line-requires
 end-line-requires c κs = ap length (c .before .before .before .gather .ensures .kept) ∙ length-after _ _ _ ∙ search
     needs
 
-line-after-requires : tie.Need-line-after-requires
-line-after-requires c κs = search needs
-
-add-t21 : tie.Need-add-t21
-add-t21 c = search needs
-
 returns : tie.Need-returns
 returns c =
     let args = c .before .before .before .before .before .before .before .before .before .before .before .args in
     let first = c .before .before .before .before .before .before in
     let second = c .before .before .before .before .before .before .gather .ensures in
     let third = c .before .before .before .before .before .if1 .taken in
-    feed-ends (args .state) (whole first) second third (c .before .before .end-line .ensures) (c .line-after .ensures)
+    feed-ends (workPaper (args .work)) (args .state) (whole first) second third (c .before .before .end-line .ensures)
+    (c .line-after .ensures)
 
 returns-2 : tie.Need-returns-2
 returns-2 c =
     let args = c .before .before .before .before .before .before .args in
-    feed-goes-on (args .state) (search needs) (c .before .gather .ensures) _ (c .if1 .left)
+    feed-goes-on (workPaper (args .work)) (args .state) (search needs) (c .before .gather .ensures) _ (c .if1 .left)
 
 pub feed-spec : {M : Type 1} → statement M
 feed-spec =
     tie.close
-    (tie.spec
-    gather-requires
-    slice-aggregate-end-line
-    end-line-requires
-    line-after-requires
-    add-t21
-    returns
-    returns-2)
+    (tie.spec (λ c κs. search needs) slice-aggregate-end-line end-line-requires (λ c. search needs)
+    (λ c κs. search needs) returns returns-2)

@@ -5,16 +5,10 @@ use Rattle.lotlines.proofs.finish.Statement.{statement}
 use Rattle.lotlines.proofs.finish.Tie as tie
 
 returns : tie.Need-returns
-returns c = nothing-begun _ _ _ _ _ (c .if1 .taken)
-
-slice-aggregate-end-line : tie.Need-slice-aggregate-end-line
-slice-aggregate-end-line c = search needs
-
-end-line-requires : tie.Need-end-line-requires
-end-line-requires c κs = search needs
+returns c = nothing-begun _ _ _ _ _ _ (c .if1 .taken)
 
 returns-2 : tie.Need-returns-2
-returns-2 c = begun-ended _ _ _ _ (search needs) (c .before .before .before .before .if1 .left) (c .end-line .ensures)
+returns-2 c = begun-ended _ _ _ _ _ (search needs) (c .before .before .before .before .if1 .left) (c .end-line .ensures)
 
 pub finish-spec : {M : Type 1} → statement M
-finish-spec = tie.close (tie.spec returns slice-aggregate-end-line end-line-requires returns-2)
+finish-spec = tie.close (tie.spec returns (λ c. search needs) (λ c κs. search needs) returns-2)

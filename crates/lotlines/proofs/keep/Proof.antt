@@ -4,12 +4,6 @@ use borrow.Author.Needs.{needs}
 use Rattle.lotlines.proofs.keep.Statement.{statement}
 use Rattle.lotlines.proofs.keep.Tie as tie
 
-element-write-bytes : tie.Need-element-write-bytes
-element-write-bytes c = search needs
-
-add-result : tie.Need-add-result
-add-result c = search needs
-
 returns : tie.Need-returns
 returns c = room (c .before .args .length) (c .before .args .byte) (c .before .args .bytes .now) (c .if1 .taken)
 
@@ -17,4 +11,4 @@ returns-2 : tie.Need-returns-2
 returns-2 c = no-room (c .before .args .length) (c .before .args .byte) (c .before .args .bytes .now) (c .if1 .left)
 
 pub keep-spec : {M : Type 1} → statement M
-keep-spec = tie.close (tie.spec element-write-bytes add-result returns returns-2)
+keep-spec = tie.close (tie.spec (λ c. search needs) (λ c. search needs) returns returns-2)

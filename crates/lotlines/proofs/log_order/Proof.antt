@@ -4,18 +4,6 @@ use borrow.Author.Needs.{needs}
 use Rattle.lotlines.proofs.log_order.Statement.{statement}
 use Rattle.lotlines.proofs.log_order.Tie as tie
 
-enum-known-answer : tie.Need-enum-known-answer
-enum-known-answer c = search needs
-
-put-refused-requires : tie.Need-put-refused-requires
-put-refused-requires c κs = search needs
-
-enum-known-answer-2 : tie.Need-enum-known-answer-2
-enum-known-answer-2 c = search needs
-
-put-order-requires : tie.Need-put-order-requires
-put-order-requires c κs = search needs
-
 returns : tie.Need-returns
 returns c =
     let args = c .before .before .before .before .before .args in
@@ -31,10 +19,4 @@ returns-2 c =
 pub log-order-spec : {M : Type 1} → statement M
 log-order-spec =
     tie.close
-    (tie.spec
-    enum-known-answer
-    put-refused-requires
-    enum-known-answer-2
-    put-order-requires
-    returns
-    returns-2)
+    (tie.spec (λ c. search needs) (λ c κs. search needs) (λ c. search needs) (λ c κs. search needs) returns returns-2)

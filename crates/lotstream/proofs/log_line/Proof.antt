@@ -4,9 +4,9 @@ use mathlib.Core.Path.{refl, sym}
 use borrow.Rule.Slice.PartAt.{part-to-end}
 use lib.ListN.{take}
 use Rattle.rules.specs.History.{ours}
-use Rattle.lotlines.specs.Paper.{paperHeld}
+use Rattle.lotlines.specs.Paper.{heldPaper}
 use Rattle.lotstream.proofs.Putting.{within-line, part-line, put-line}
-use Rattle.lotstream.proofs.Onwards.{line-same, line-taken}
+use Rattle.lotstream.proofs.Onwards.{feeds-ours, line-same, line-taken}
 use borrow.Author.Needs.{needs}
 use Rattle.lotstream.proofs.log_line.Statement.{statement}
 use Rattle.lotstream.proofs.log_line.Tie as tie
@@ -24,28 +24,29 @@ put-requires c κs =
       arith,
       shown .fits,
       part-line shown refl,
-      c .before .before .before .before .before .before .before .before .before .pre .1,
+      c .before .before .before .before .before .before .before .before .before .before .pre .1,
     )
 
 add-taken : tie.Need-add-taken
 add-taken c =
-    let fed = c .before .before .before .before .before .before .before in
-    let start = fed .before .before .before .before .before .before in
+    let after = c .before .before .before .before .before .before .before in
+    let fed = feeds-ours (after .before .before .before .ours .ensures) (after .feed .ensures) in
+    let start = after .before .before .before .before .before .before .before in
     let piece = start .args .piece .now in
     let at = start .args .turn .taken in
-    let held = paperHeld (start .args .turn .state) in
+    let held = heldPaper (start .args .turn .state) in
     let taken = line-taken ours held piece _ at (part-to-end piece at) (start .pre .0) in
-    omega (arith, fed .feed .ensures .taken, taken .1)
+    omega (arith, fed .taken, taken .1)
 
 returns : tie.Need-returns
 returns c =
     let after = c .before .before .before .before .before .before .before in
-    let start = after .before .before .before .before .before .before in
-    let fed = after .feed .ensures in
+    let start = after .before .before .before .before .before .before .before in
+    let fed = feeds-ours (after .before .before .before .ours .ensures) (after .feed .ensures) in
     let piece = start .args .piece .now in
     let at = start .args .turn .taken in
     let part = part-to-end piece at in
-    let held = paperHeld (start .args .turn .state) in
+    let held = heldPaper (start .args .turn .state) in
     let taken = line-taken ours held piece _ at part (start .pre .0) in
     let put = put-line (fed .shown) refl (start .pre .1) (c .before .before .before .put .ensures) in (
       record {
@@ -66,7 +67,7 @@ returns c =
 pub log-line-spec : {M : Type 1} → statement M
 log-line-spec =
     tie.close
-    (tie.spec (λ c. search needs) (λ c. search needs) (λ c. search needs) (λ c κs. search needs)
+    (tie.spec (λ c κs. search needs) (λ c. search needs) (λ c. search needs) (λ c. search needs) (λ c κs. search needs)
     array-share-prefix-line
     slice-aggregate-put
     put-requires

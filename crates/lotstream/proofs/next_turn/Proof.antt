@@ -9,7 +9,8 @@ use Rattle.lotstream.proofs.next_turn.Tie as tie
 
 returns : tie.Need-returns
 returns c =
-    let sent = c .before in not-written (sent .before .before .before .before .pre) (sent .write-waiting .ensures) (c .if1 .taken)
+    let sent = c .before in not-written (sent .before .before .before .before .pre) (sent .write-waiting .ensures)
+    (c .if1 .taken)
 
 returns-2 : tie.Need-returns-2
 returns-2 c =

@@ -2,6 +2,7 @@
 use native.Mathlib.Omega.{arith}
 use mathlib.Core.Path.{refl, ap, _∙_}
 use Rattle.rules.specs.History.{ours}
+use Rattle.rules.specs.Feeding.{starting}
 use Rattle.lotstream.proofs.Putting.{within-line, part-line, put-line}
 use Rattle.lotstream.proofs.Onwards.{all-same}
 use borrow.Author.Needs.{needs}
@@ -18,14 +19,14 @@ put-requires c κs =
 
 returns : tie.Need-returns
 returns c =
-    let shown = c .before .before .before .before .before .before .header .ensures in
-    let pre = c .before .before .before .before .before .before .before .before .before .pre in
-    let put = put-line shown refl (omega (arith, pre)) (c .before .before .before .put .ensures) in
+    let shown = c .before .before .before .before .before .before .before .header .ensures in
+    let pre = c .before .before .before .before .before .before .before .before .before .before .pre in
+    let put = put-line shown refl (omega (arith, pre)) (c .before .before .before .before .put .ensures) in
     record {
-      whole = all-same ours _ _ (c .start .ensures .held) (put .0);
+      whole = all-same ours _ _ (c .start .ensures .held ∙ ap starting (c .before .ours .ensures)) (put .0);
       long = refl;
       taken = refl;
-      fits = omega (arith, put .1, c .before .before .before .put .kept .0);
+      fits = omega (arith, put .1, c .before .before .before .before .put .kept .0);
       over = refl;
       failed = refl;
     }
@@ -37,6 +38,7 @@ open-log-spec =
     array-share-prefix-line
     (λ c. search needs)
     put-requires
+    (λ c κs. search needs)
     (λ c κs. search needs)
     (λ c. search needs)
     returns)

@@ -1,7 +1,5 @@
 -- `lotstream::run` meets its contract.
-use Prim.Native.Nat.{_≤_}
-use native.Mathlib.Omega.{arith}
-use mathlib.Core.Path.{_≡_, refl, _∙_}
+use mathlib.Core.Path.{_≡_, refl}
 use lib.ListN.{length}
 use Rattle.lotstream.specs.Runs.{scene, Running}
 use Rattle.lotstream.proofs.Turning.{run-opened, run-more, runs-now, runs-more}
@@ -52,6 +50,7 @@ run-spec =
     (tie.spec
     Inv-loop
     μ-loop
+    (λ c κs. search needs)
     (λ c κs. search needs)
     returns
     (λ c κs. search needs)
