@@ -1,5 +1,5 @@
--- What a book supplies to a lot, by what the look-up promises: 12 first, then the lot's own refusals, then the entry under
--- its key, and its plan where that is not above the lot. One law for every kind of section.
+-- What a book supplies to a lot, by what the look-up promises: 12 first, then the lot's own refusals, then the entry
+-- under its key, and its plan where that is not above the lot. One law for every kind of section.
 -- Assumes nothing.
 use Prim.Native.Nat.{ℕ, _≤_, _<_}
 use mathlib.Core.Path.{_≡_, refl, sym, ap, _∙_}

@@ -41,15 +41,33 @@ pub unplanned-beside : {P : Type 0} {zeros plan : P} {n p : ℕ} → plan ≡ ze
 unplanned-beside {P} {zeros} {plan} {n} {p} e =
     ap (λ (x : P). record { answer = refused n p; plan = withoutLetter x }) e
 
--- the plan of a lot, without its letter
-pub unlettered : {P : Type 0} (q : Asked) (a : Answer P) (n p : ℕ) → refused n p ≡ lettered q a → a ≡ refused n p
-unlettered q (refused m k) n p e = cc
-unlettered q (given x) n p e = absurd (refused-given e)
+-- The plan of a lot, by what planning it promises: beside its outcome, with or without its letter.
+module _ {P : Type 0} (zeros : P) (a : Answer P) (o : Outcome) (plan : P)
+    (h : record { answer = outcomeOn o plan; plan = plan } ≡ beside zeros itself a) where
+  pub single-refused : (n p : ℕ) → o ≡ outcomes.Refused n p → a ≡ refused n p
+  single-refused n p e = sym (beside-answer zeros itself _ a h) ∙ rw e
 
-pub plan-of : {P : Type 0} (q : Asked) (a : Answer P) (l : ℕ) (x : P)
-    → given (record { letter = l; plan = x }) ≡ lettered q a → a ≡ given x
-plan-of q (refused m k) l x e = absurd (refused-given (sym e))
-plan-of {P} q (given y) l x e = ap (λ (b : Lettered P). given (b .plan)) (sym (given-one e))
+  pub single-given : o ≡ outcomes.Given → a ≡ given plan
+  single-given e = sym (beside-answer zeros itself _ a h) ∙ rw e
+
+module _ {P : Type 0} (zeros : P) (q : Asked) (a : Answer P) (o : Outcome) (l : ℕ) (plan : P)
+    (h : planned o l plan ≡ beside (withoutLetter zeros) itself (lettered q a)) where
+  answered : outcomeOn o (record { letter = l; plan = plan }) ≡ lettered q a
+  answered = beside-answer (withoutLetter zeros) itself _ _ h
+
+  pub lettered-refused : (n p : ℕ) → o ≡ outcomes.Refused n p → a ≡ refused n p
+  lettered-refused n p e = go a (rw e at answered)
+    where
+      go : (x : Answer P) → refused n p ≡ lettered q x → x ≡ refused n p
+      go (refused m k) f = cc
+      go (given y) f = absurd (refused-given f)
+
+  pub lettered-given : o ≡ outcomes.Given → a ≡ given plan
+  lettered-given e = go a (rw e at answered)
+    where
+      go : (x : Answer P) → given (record { letter = l; plan = plan }) ≡ lettered q x → x ≡ given plan
+      go (refused m k) f = absurd (refused-given (sym f))
+      go (given y) f = ap (λ (b : Lettered P). given (b .plan)) (sym (given-one f))
 
 -- a verdict on the plan beside it is the verdict of its sample
 pub on-plan : {P : Type 0} (answer : VerdictAnswer) (p : P)

@@ -28,7 +28,8 @@ returns c =
     ∙ ap (beside zeroPlan planClosed)
     (ap (λ (x : Answer (Judged Plan Verdict)).
     andThen x (λ j. onRecord r (closedWith r o (singleCounts r o) j))) judged
-    ∙ closed-in-range (now (a .book)) r _ _ (sym (c .before .before .before .before .in-range .ensures) ∙ c .before .before .before .if1 .taken)
+    ∙ closed-in-range (now (a .book)) r _ _ (sym
+    (c .before .before .before .before .in-range .ensures) ∙ c .before .before .before .if1 .taken)
     (single-checked (askedOn r o) (now (a .book)) (now (a .sample))))
 
 returns-2 : tie.Need-returns-2
@@ -40,10 +41,12 @@ returns-2 c =
     c .unclosed .ensures
     ∙ ap (beside zeroPlan planClosed)
     (closed-out-of-range (now (a .book)) r (judgeSingle (askedOn r o) (now (a .book)) (now (a .sample)))
-    (closedWith r o (singleCounts r o)) (sym (c .before .before .before .in-range .ensures) ∙ c .before .before .if1 .left) _ _
+    (closedWith r o (singleCounts r o)) (sym
+    (c .before .before .before .in-range .ensures) ∙ c .before .before .if1 .left) _ _
     (c .before .first-refusal .ensures))
 
 pub close-single-spec : {M : Type 1} → statement M
 close-single-spec =
     tie.close
-    (tie.spec (λ c κs. search needs) (λ c κs. search needs) (λ c κs. search needs) (λ c κs. search needs) returns (λ c κs. search needs) (λ c κs. search needs) returns-2)
+    (tie.spec (λ c κs. search needs) (λ c κs. search needs) (λ c κs. search needs) (λ c κs. search needs) returns
+    (λ c κs. search needs) (λ c κs. search needs) returns-2)

@@ -29,7 +29,8 @@ returns c =
     ∙ ap (beside noStages planClosed)
     (ap (λ (x : Answer (Judged StagedPlan Verdict)).
     andThen x (λ j. onRecord r (closedWith r o (stagedCounts r o) j))) judged
-    ∙ closed-in-range (now (a .book)) r _ _ (sym (c .before .before .before .before .in-range .ensures) ∙ c .before .before .before .if1 .taken)
+    ∙ closed-in-range (now (a .book)) r _ _ (sym
+    (c .before .before .before .before .in-range .ensures) ∙ c .before .before .before .if1 .taken)
     (staged-checked (askedOn r o) (now (a .book)) (now (a .sample))))
 
 returns-2 : tie.Need-returns-2
@@ -41,10 +42,12 @@ returns-2 c =
     c .staged-closed .ensures
     ∙ ap (beside noStages planClosed)
     (closed-out-of-range (now (a .book)) r (judgeStaged (askedOn r o) (now (a .book)) (now (a .sample)))
-    (closedWith r o (stagedCounts r o)) (sym (c .before .before .before .before .in-range .ensures) ∙ c .before .before .before .if1 .left) _ _
+    (closedWith r o (stagedCounts r o)) (sym
+    (c .before .before .before .before .in-range .ensures) ∙ c .before .before .before .if1 .left) _ _
     (c .before .before .first-refusal .ensures))
 
 pub close-staged-spec : {M : Type 1} → statement M
 close-staged-spec =
     tie.close
-    (tie.spec (λ c κs. search needs) (λ c κs. search needs) (λ c κs. search needs) (λ c κs. search needs) returns (λ c κs. search needs) (λ c κs. search needs) (λ c κs. search needs) returns-2)
+    (tie.spec (λ c κs. search needs) (λ c κs. search needs) (λ c κs. search needs) (λ c κs. search needs) returns
+    (λ c κs. search needs) (λ c κs. search needs) (λ c κs. search needs) returns-2)

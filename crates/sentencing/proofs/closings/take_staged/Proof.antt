@@ -17,10 +17,12 @@ returns-2 c =
     let a = c .before .before .before .before .before .before .before .args in
     taken-given noStages (stagedCounts (recordPaper (a .old)) (offeredPaper (a .lot))) _ (recordPaper (a .old))
     (offeredPaper (a .lot)) _ (stagedPaper (a .judged .plan)) _ _ (c .before .enter .result)
-    (c .before .before .before .before .answer2 .given .1) (c .before .before .staged-event .ensures) (c .before .enter .ensures)
+    (c .before .before .before .before .answer2 .given .1) (c .before .before .staged-event .ensures)
+    (c .before .enter .ensures)
     (c .staged-closed2 .ensures)
 
 pub take-staged-spec : {M : Type 1} → statement M
 take-staged-spec =
     tie.close
-    (tie.spec (λ c. search needs) (λ c κs. search needs) (λ c. search needs) (λ c κs. search needs) (λ c κs. search needs) (λ c κs. search needs) returns returns-2)
+    (tie.spec (λ c. search needs) (λ c κs. search needs) (λ c. search needs) (λ c κs. search needs)
+    (λ c κs. search needs) (λ c κs. search needs) returns returns-2)

@@ -1,34 +1,20 @@
 -- `sentencing::judging::judge_variables` meets its contract.
 -- Assumes nothing.
-use mathlib.Core.Path.{_≡_, sym, ap, _∙_}
+use mathlib.Core.Path.{ap, _∙_}
 use denote.Ref.{now}
 use lib.IntN.{ℤ}
 use mir.Syntax.{w32}
 use mir.ValLaws.{toZ-ofZ}
 use Rattle.rules.specs.Variables.{judgeReadings}
-use Rattle.rules.specs.Entries.{Lettered, lettered, variablesPlan, judgeVariables, variablesSample}
-use Rattle.plans.specs.declared.Outcome.{Outcome}
-use Rattle.plans.specs.Paper.{askedPaper, beside, outcomeOn, itself}
+use Rattle.rules.specs.Entries.{variablesPlan, judgeVariables, variablesSample}
+use Rattle.plans.specs.Paper.{askedPaper, beside}
 use Rattle.entry.specs.Paper.{variablesPaper}
 use Rattle.closing.specs.Paper.{planJudged}
-use Rattle.sentencing.specs.Paper.{withoutLetter, zeroVariables}
-use Rattle.sentencing.proofs.Verdicts.{beside-answer, unlettered, plan-of, judged-refused, judged-given, variables-sample}
+use Rattle.sentencing.specs.Paper.{zeroVariables}
+use Rattle.sentencing.proofs.Verdicts.{lettered-refused, lettered-given, judged-refused, judged-given, variables-sample}
 use borrow.Author.Needs.{needs}
 use Rattle.sentencing.proofs.judging.judge_variables.Statement.{statement}
 use Rattle.sentencing.proofs.judging.judge_variables.Tie as tie
-
--- the plan's answer
-has : (c : tie.After-variables-plan) (o : Outcome) → c .variables-plan .result .answer ≡ o → let a = c .before .before .before .args in
-    outcomeOn o
-    (record { letter = c .variables-plan .result .letter; plan = variablesPaper (c .variables-plan .result .plan) })
-    ≡ lettered (askedPaper (a .lot)) (variablesPlan (askedPaper (a .lot)) (now (a .book)))
-has c o e =
-    sym
-    (ap
-    (λ (x : Outcome).
-    outcomeOn x
-    (record { letter = c .variables-plan .result .letter; plan = variablesPaper (c .variables-plan .result .plan) })) e)
-    ∙ beside-answer (withoutLetter zeroVariables) itself _ _ (c .variables-plan .ensures)
 
 returns : tie.Need-returns
 unfolding judgeVariables
@@ -36,27 +22,30 @@ returns c =
     let a = c .before .before .before .before .before .before .before .before .args in
     c .variables-judged .ensures
     ∙ ap (beside zeroVariables planJudged)
-    (judged-refused (variablesPlan (askedPaper (a .lot)) (now (a .book))) (λ p. judgeReadings (a .upper) p (a .limit) (now (a .readings))) _ _
-    (unlettered (askedPaper (a .lot)) (variablesPlan (askedPaper (a .lot)) (now (a .book))) _ _ (has (c .before .before .before .before .before) _ (c .before .before .answer .given .1))))
+    (judged-refused (variablesPlan (askedPaper (a .lot)) (now (a .book)))
+    (λ p. judgeReadings (a .upper) p (a .limit) (now (a .readings))) _ _
+    (lettered-refused zeroVariables (askedPaper (a .lot)) _ _ _ _ (c .before .before .before .before .before .variables-plan .ensures) _ _
+    (c .before .before .answer .given .1)))
 
 returns-2 : tie.Need-returns-2
 unfolding judgeVariables
 returns-2 c =
     let a = c .before .before .before .before .before .before .before .before .args in
-    let g = plan-of (askedPaper (a .lot)) (variablesPlan (askedPaper (a .lot)) (now (a .book))) _ _
-    (has (c .before .before .before .before .before) _ (c .before .before .enum-told .given .1)) in
+    let plan = variablesPaper (c .before .before .before .before .before .variables-plan .result .plan) in
+    let g = lettered-given zeroVariables (askedPaper (a .lot)) (variablesPlan (askedPaper (a .lot)) (now (a .book))) _ _ plan
+    (c .before .before .before .before .before .variables-plan .ensures) (c .before .before .enum-told .given .1) in
     c .variables-judged2 .ensures
     ∙ ap (beside zeroVariables planJudged)
-    (judged-given (variablesPlan (askedPaper (a .lot)) (now (a .book))) (λ p. judgeReadings (a .upper) p (a .limit) (now (a .readings))) (variablesPaper (c .before .before .before .before .before .variables-plan .result .plan))
+    (judged-given (variablesPlan (askedPaper (a .lot)) (now (a .book)))
+    (λ p. judgeReadings (a .upper) p (a .limit) (now (a .readings))) plan
     (c .before .judge-readings .result) g
     (c .before .judge-readings .ensures
-    ∙ ap (λ (x : ℤ). variablesSample (a .upper) (variablesPaper (c .before .before .before .before .before .variables-plan .result .plan)) x
-    (now (a .readings)))
+    ∙ ap (λ (x : ℤ). variablesSample (a .upper) plan x (now (a .readings)))
     (toZ-ofZ w32 (a .limit) (c .before .before .before .before .before .before .before .before .fits .limit))
-    ∙ variables-sample (askedPaper (a .lot)) (now (a .book)) (now (a .readings)) (a .upper) (a .limit)
-    (variablesPaper (c .before .before .before .before .before .variables-plan .result .plan)) g))
+    ∙ variables-sample (askedPaper (a .lot)) (now (a .book)) (now (a .readings)) (a .upper) (a .limit) plan g))
 
 pub judge-variables-spec : {M : Type 1} → statement M
 judge-variables-spec =
     tie.close
-    (tie.spec (λ c κs. search needs) (λ c. search needs) (λ c κs. search needs) (λ c. search needs) (λ c κs. search needs) (λ c κs. search needs) returns returns-2)
+    (tie.spec (λ c κs. search needs) (λ c. search needs) (λ c κs. search needs) (λ c. search needs)
+    (λ c κs. search needs) (λ c κs. search needs) returns returns-2)

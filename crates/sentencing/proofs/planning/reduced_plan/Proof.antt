@@ -28,7 +28,8 @@ stands : (c : tie.After-letter) → let a = c .before .before .before .before .a
     ≡ placeFor 0 (askedPaper (a .lot)) (now (a .book))
 stands c = sym (ap supplyPaper (c .letter .given .1)) ∙ c .before .before .supplied .ensures
 
-near : (c : tie.After-letter) → c .letter .given .0 .1 .0 ≤ length (numbersOf (now (c .before .before .before .before .args .book)))
+near : (c : tie.After-letter) → c .letter .given .0 .1 .0 ≤ length (numbersOf (now
+    (c .before .before .before .before .args .book)))
 near c =
     let a = c .before .before .before .before .args in
     supplied-near 0 known (askedPaper (a .lot)) (now (a .book)) _ _ (stands c)
@@ -37,10 +38,20 @@ mul-from : tie.Need-mul-from
 mul-from c = omega (arith, near (c .before), numbers-low (now (c .before .before .before .before .before .args .book)))
 
 sub-reduced-at : tie.Need-sub-reduced-at
-sub-reduced-at c = omega (arith, near (c .before), numbers-low (now (c .before .before .before .before .before .args .book)))
+sub-reduced-at c = omega (
+  arith,
+  near (c .before),
+  numbers-low (now
+      (c .before .before .before .before .before .args .book)),
+)
 
 part-reduced-at-start : tie.Need-part-reduced-at-start
-part-reduced-at-start c = omega (arith, near (c .before), numbers-low (now (c .before .before .before .before .before .args .book)))
+part-reduced-at-start c = omega (
+  arith,
+  near (c .before),
+  numbers-low (now
+      (c .before .before .before .before .before .args .book)),
+)
 
 returns : tie.Need-returns
 returns c =
@@ -48,15 +59,19 @@ returns c =
     c .unplanned .ensures
     ∙ ap (beside zeroPlan itself)
     (sym
-    (reduced-supplied (askedPaper (a .lot)) (now (a .book)) known (c .before .before .before .before .before .before .pre)
+    (reduced-supplied (askedPaper (a .lot)) (now (a .book)) known
+    (c .before .before .before .before .before .before .pre)
     ∙ not-supplied 0 (askedPaper (a .lot)) (now (a .book)) known _ _ _
-    (sym (ap supplyPaper (c .before .before .number .given .1)) ∙ c .before .before .before .before .supplied .ensures)))
+    (sym (ap supplyPaper
+    (c .before .before .number .given .1)) ∙ c .before .before .before .before .supplied .ensures)))
 
 returns-2 : tie.Need-returns-2
 returns-2 c =
     let a = c .before .before .before .before .before .before .before .before .args in
     ap (beside zeroPlan itself)
-    (reduced-given (askedPaper (a .lot)) (now (a .book)) known (c .before .before .before .before .before .before .before .before .pre) _ _ (stands (c .before .before .before .before))
+    (reduced-given (askedPaper (a .lot)) (now (a .book)) known
+    (c .before .before .before .before .before .before .before .before .pre) _ _ (stands
+    (c .before .before .before .before))
     (reducedPaper (c .before .reduced-at .result))
     (c .before .reduced-at .ensures
     ∙ ap (λ (ws : List ℕ). reducedOf (entryOf reducedSingles ws)) (numbers-part (now (a .book)) _))
@@ -65,4 +80,6 @@ returns-2 c =
 pub reduced-plan-spec : {M : Type 1} → statement M
 reduced-plan-spec =
     tie.close
-    (tie.spec (λ c κs. search needs) (λ c. search needs) (λ c κs. search needs) (λ c. search needs) mul-from sub-reduced-at part-reduced-at-start (λ c. search needs) (λ c κs. search needs) (λ c κs. search needs) returns returns-2)
+    (tie.spec (λ c κs. search needs) (λ c. search needs) (λ c κs. search needs)
+    (λ c. search needs) mul-from sub-reduced-at part-reduced-at-start (λ c. search needs) (λ c κs. search needs)
+    (λ c κs. search needs) returns returns-2)

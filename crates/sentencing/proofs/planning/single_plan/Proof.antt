@@ -14,7 +14,8 @@ use Rattle.sentencing.proofs.planning.single_plan.Tie as tie
 
 -- from the tables, once the book is sound
 tables : (c : tie.Else1) → let a = c .before .before .before .args in
-    onSound (checkBook (now (a .book))) (plainPlan (askedPaper (a .lot))) ≡ singlePlan (askedPaper (a .lot)) (now (a .book))
+    onSound (checkBook (now (a .book))) (plainPlan (askedPaper (a .lot))) ≡ singlePlan (askedPaper (a .lot)) (now
+    (a .book))
 tables c =
     let a = c .before .before .before .args in
     sym (table-planned (askedPaper (a .lot)) (now (a .book)) (c .if1 .left))
@@ -23,7 +24,8 @@ returns-2 : tie.Need-returns-2
 returns-2 c =
     c .unplanned .ensures
     ∙ ap (beside zeroPlan itself)
-    (broken-first (checkBook (now (c .before .before .before .before .before .before .before .before .args .book))) _ _ _
+    (broken-first (checkBook (now
+    (c .before .before .before .before .before .before .before .before .args .book))) _ _ _
     (sym (ap bookPaper (c .before .before .number .given .1)) ∙ c .before .before .before .before .check-book .ensures)
     ∙ tables (c .before .before .before .before .before))
 

@@ -36,7 +36,8 @@ stands : (c : tie.After-letter) → let a = c .before .before .before .before .a
     ≡ placeFor 1 (askedPaper (a .lot)) (now (a .book))
 stands c = sym (ap supplyPaper (c .letter .given .1)) ∙ c .before .before .supplied .ensures
 
-near : (c : tie.After-letter) → c .letter .given .0 .1 .0 ≤ length (numbersOf (now (c .before .before .before .before .args .book)))
+near : (c : tie.After-letter) → c .letter .given .0 .1 .0 ≤ length (numbersOf (now
+    (c .before .before .before .before .args .book)))
 near c =
     let a = c .before .before .before .before .args in
     supplied-near 1 known (askedPaper (a .lot)) (now (a .book)) _ _ (stands c)
@@ -45,10 +46,20 @@ mul-from : tie.Need-mul-from
 mul-from c = omega (arith, near (c .before), numbers-low (now (c .before .before .before .before .before .args .book)))
 
 sub-staged-at : tie.Need-sub-staged-at
-sub-staged-at c = omega (arith, near (c .before), numbers-low (now (c .before .before .before .before .before .args .book)))
+sub-staged-at c = omega (
+  arith,
+  near (c .before),
+  numbers-low (now
+      (c .before .before .before .before .before .args .book)),
+)
 
 part-staged-at-start : tie.Need-part-staged-at-start
-part-staged-at-start c = omega (arith, near (c .before), numbers-low (now (c .before .before .before .before .before .args .book)))
+part-staged-at-start c = omega (
+  arith,
+  near (c .before),
+  numbers-low (now
+      (c .before .before .before .before .before .args .book)),
+)
 
 -- what was read
 alone : (c : tie.After-staged-at) → let a = c .before .before .before .before .before .before .before .args in
@@ -67,7 +78,8 @@ read c =
     let a = c .before .before .before .before .before .before .before .args in
     alone c
     ∙ few-stages (a .lot .severity) (letterOf (a .lot .size) (a .lot .level)) (a .lot .column) (now (a .book)) _
-    (supplied-at 1 (askedPaper (a .lot)) (now (a .book)) known (λ e. given e) _ _ (stands (c .before .before .before)) .held)
+    (supplied-at 1 (askedPaper (a .lot)) (now (a .book)) known (λ e. given e) _ _ (stands
+    (c .before .before .before)) .held)
 
 few : (c : tie.After-staged-at) → c .staged-at .result .stages ≤ 7
 few c =
@@ -83,26 +95,35 @@ unfolding stagedPlan items
 returns c =
     c .staged-unplanned2 .ensures
     ∙ ap (beside (withoutLetter noStages) itself)
-    (plan-above 1 known stagedOf items (askedPaper (c .before .before .before .before .before .before .before .before .before .before .before .args .lot)) (now (c .before .before .before .before .before .before .before .before .before .before .before .args .book)) _ _
-    (stands (c .before .before .before .before .before .before .before)) _ (read (c .before .before .before .before)) (rw (← c .before .before .total-size .ensures) (c .before .if1 .taken)))
+    (plan-above 1 known stagedOf items (askedPaper
+    (c .before .before .before .before .before .before .before .before .before .before .before .args .lot)) (now
+    (c .before .before .before .before .before .before .before .before .before .before .before .args .book)) _ _
+    (stands (c .before .before .before .before .before .before .before)) _ (read (c .before .before .before .before))
+    (rw (← c .before .before .total-size .ensures) (c .before .if1 .taken)))
 
 returns-2 : tie.Need-returns-2
 unfolding stagedPlan items
 returns-2 c =
     c .staged-unplanned .ensures
     ∙ ap (beside (withoutLetter noStages) itself)
-    (plan-refused 1 known stagedOf items (askedPaper (c .before .before .before .before .before .before .args .lot)) (now (c .before .before .before .before .before .before .args .book)) _ _
+    (plan-refused 1 known stagedOf items (askedPaper (c .before .before .before .before .before .before .args .lot))
+    (now (c .before .before .before .before .before .before .args .book)) _ _
     (sym (ap supplyPaper (c .before .before .number .given .1)) ∙ c .before .before .before .before .supplied .ensures))
 
 returns-3 : tie.Need-returns-3
 unfolding stagedPlan items
 returns-3 c =
     ap (beside (withoutLetter noStages) itself)
-    (plan-given 1 known stagedOf items (askedPaper (c .before .before .before .before .before .before .before .before .before .before .args .lot)) (now (c .before .before .before .before .before .before .before .before .before .before .args .book)) _ _
-    (stands (c .before .before .before .before .before .before)) _ (read (c .before .before .before)) (rw (← c .before .total-size .ensures) (c .if1 .left)))
+    (plan-given 1 known stagedOf items (askedPaper
+    (c .before .before .before .before .before .before .before .before .before .before .args .lot)) (now
+    (c .before .before .before .before .before .before .before .before .before .before .args .book)) _ _
+    (stands (c .before .before .before .before .before .before)) _ (read (c .before .before .before)) (rw
+    (← c .before .total-size .ensures) (c .if1 .left)))
 
 pub staged-plan-spec : {M : Type 1} → statement M
 staged-plan-spec =
     tie.close
-    (tie.spec (λ c κs. search needs) (λ c. search needs) (λ c κs. search needs) (λ c. search needs) mul-from sub-staged-at part-staged-at-start (λ c. search needs) (λ c κs. search needs) (λ c. search needs) total-size-requires (λ c κs. search needs) returns
+    (tie.spec (λ c κs. search needs) (λ c. search needs) (λ c κs. search needs)
+    (λ c. search needs) mul-from sub-staged-at part-staged-at-start (λ c. search needs) (λ c κs. search needs)
+    (λ c. search needs) total-size-requires (λ c κs. search needs) returns
     returns-2 returns-3)

@@ -13,24 +13,28 @@ returns : tie.Need-returns
 returns c =
     let a = c .before .before .before .before .before .before .args in
     unasked (a .kind) (askedPaper (a .lot)) (now (a .book)) _ _ _ _
-    (sym (c .before .before .before .before .asked-letter .ensures) ∙ ap letterPaper (c .before .before .number .given .1))
+    (sym (c .before .before .before .before .asked-letter .ensures) ∙ ap letterPaper
+    (c .before .before .number .given .1))
     (c .first-refusal .ensures)
 
 returns-2 : tie.Need-returns-2
 returns-2 c =
     let a = c .before .before .before .before .before .before .before .before .before .args in
     looked-up (a .kind) (askedPaper (a .lot)) (now (a .book)) _ _
-    (sym (c .before .before .before .before .before .before .before .asked-letter .ensures) ∙ ap letterPaper (c .before .before .before .before .before .letter .given .1))
+    (sym (c .before .before .before .before .before .before .before .asked-letter .ensures) ∙ ap letterPaper
+    (c .before .before .before .before .before .letter .given .1))
     (sym (ap foundPaper (c .before .number2 .given .1)) ∙ c .before .before .before .find .ensures)
 
 returns-3 : tie.Need-returns-3
 returns-3 c =
     let a = c .before .before .before .before .before .before .before .before .before .args in
     looked-up (a .kind) (askedPaper (a .lot)) (now (a .book)) _ _
-    (sym (c .before .before .before .before .before .before .before .asked-letter .ensures) ∙ ap letterPaper (c .before .before .before .before .before .letter .given .1))
+    (sym (c .before .before .before .before .before .before .before .asked-letter .ensures) ∙ ap letterPaper
+    (c .before .before .before .before .before .letter .given .1))
     (sym (ap foundPaper (c .before .place .given .1)) ∙ c .before .before .before .find .ensures)
 
 pub supplied-spec : {M : Type 1} → statement M
 supplied-spec =
     tie.close
-    (tie.spec (λ c κs. search needs) (λ c. search needs) (λ c κs. search needs) (λ c. search needs) (λ c κs. search needs) (λ c. search needs) (λ c. search needs) returns returns-2 returns-3)
+    (tie.spec (λ c κs. search needs) (λ c. search needs) (λ c κs. search needs) (λ c. search needs)
+    (λ c κs. search needs) (λ c. search needs) (λ c. search needs) returns returns-2 returns-3)

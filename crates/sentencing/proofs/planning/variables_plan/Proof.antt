@@ -29,7 +29,8 @@ stands : (c : tie.After-letter) → let a = c .before .before .before .before .a
     ≡ placeFor 3 (askedPaper (a .lot)) (now (a .book))
 stands c = sym (ap supplyPaper (c .letter .given .1)) ∙ c .before .before .supplied .ensures
 
-near : (c : tie.After-letter) → c .letter .given .0 .1 .0 ≤ length (numbersOf (now (c .before .before .before .before .args .book)))
+near : (c : tie.After-letter) → c .letter .given .0 .1 .0 ≤ length (numbersOf (now
+    (c .before .before .before .before .args .book)))
 near c =
     let a = c .before .before .before .before .args in
     supplied-near 3 known (askedPaper (a .lot)) (now (a .book)) _ _ (stands c)
@@ -38,43 +39,64 @@ mul-from : tie.Need-mul-from
 mul-from c = omega (arith, near (c .before), numbers-low (now (c .before .before .before .before .before .args .book)))
 
 sub-variables-at : tie.Need-sub-variables-at
-sub-variables-at c = omega (arith, near (c .before), numbers-low (now (c .before .before .before .before .before .args .book)))
+sub-variables-at c = omega (
+  arith,
+  near (c .before),
+  numbers-low (now
+      (c .before .before .before .before .before .args .book)),
+)
 
 part-variables-at-start : tie.Need-part-variables-at-start
-part-variables-at-start c = omega (arith, near (c .before), numbers-low (now (c .before .before .before .before .before .args .book)))
+part-variables-at-start c = omega (
+  arith,
+  near (c .before),
+  numbers-low (now
+      (c .before .before .before .before .before .args .book)),
+)
 
 -- the plan that was read is that of the entry
 read : (c : tie.After-variables-at) → let a = c .before .before .before .before .before .before .before .args in
     variablesPaper (c .variables-at .result)
-    ≡ variablesOf (entryOf variables (drop (c .before .before .before .letter .given .0 .1 .0) (numbersOf (now (a .book)))))
+    ≡ variablesOf (entryOf variables (drop (c .before .before .before .letter .given .0 .1 .0) (numbersOf (now
+    (a .book)))))
 read c =
     c .variables-at .ensures
-    ∙ ap (λ (ws : List ℕ). variablesOf (entryOf variables ws)) (numbers-part (now (c .before .before .before .before .before .before .before .args .book)) _)
+    ∙ ap (λ (ws : List ℕ). variablesOf (entryOf variables ws)) (numbers-part (now
+    (c .before .before .before .before .before .before .before .args .book)) _)
 
 returns : tie.Need-returns
 unfolding variablesPlan
 returns c =
     c .variables-unplanned2 .ensures
     ∙ ap (beside (withoutLetter zeroVariables) itself)
-    (plan-above 3 known variablesOf (λ p. p .n) (askedPaper (c .before .before .before .before .before .before .before .before .before .before .before .args .lot)) (now (c .before .before .before .before .before .before .before .before .before .before .before .args .book)) _ _
-    (stands (c .before .before .before .before .before .before .before)) _ (read (c .before .before .before .before)) (c .before .if1 .taken))
+    (plan-above 3 known variablesOf (λ p. p .n) (askedPaper
+    (c .before .before .before .before .before .before .before .before .before .before .before .args .lot)) (now
+    (c .before .before .before .before .before .before .before .before .before .before .before .args .book)) _ _
+    (stands (c .before .before .before .before .before .before .before)) _ (read (c .before .before .before .before))
+    (c .before .if1 .taken))
 
 returns-2 : tie.Need-returns-2
 unfolding variablesPlan
 returns-2 c =
     c .variables-unplanned .ensures
     ∙ ap (beside (withoutLetter zeroVariables) itself)
-    (plan-refused 3 known variablesOf (λ p. p .n) (askedPaper (c .before .before .before .before .before .before .args .lot)) (now (c .before .before .before .before .before .before .args .book)) _ _
+    (plan-refused 3 known variablesOf (λ p. p .n) (askedPaper
+    (c .before .before .before .before .before .before .args .lot)) (now
+    (c .before .before .before .before .before .before .args .book)) _ _
     (sym (ap supplyPaper (c .before .before .number .given .1)) ∙ c .before .before .before .before .supplied .ensures))
 
 returns-3 : tie.Need-returns-3
 unfolding variablesPlan
 returns-3 c =
     ap (beside (withoutLetter zeroVariables) itself)
-    (plan-given 3 known variablesOf (λ p. p .n) (askedPaper (c .before .before .before .before .before .before .before .before .before .before .args .lot)) (now (c .before .before .before .before .before .before .before .before .before .before .args .book)) _ _
+    (plan-given 3 known variablesOf (λ p. p .n) (askedPaper
+    (c .before .before .before .before .before .before .before .before .before .before .args .lot)) (now
+    (c .before .before .before .before .before .before .before .before .before .before .args .book)) _ _
     (stands (c .before .before .before .before .before .before)) _ (read (c .before .before .before)) (c .if1 .left))
 
 pub variables-plan-spec : {M : Type 1} → statement M
 variables-plan-spec =
     tie.close
-    (tie.spec (λ c κs. search needs) (λ c. search needs) (λ c κs. search needs) (λ c. search needs) mul-from sub-variables-at part-variables-at-start (λ c. search needs) (λ c κs. search needs) (λ c. search needs) (λ c κs. search needs) returns returns-2 returns-3)
+    (tie.spec (λ c κs. search needs) (λ c. search needs) (λ c κs. search needs)
+    (λ c. search needs) mul-from sub-variables-at part-variables-at-start (λ c. search needs) (λ c κs. search needs)
+    (λ c. search needs) (λ c κs. search needs) returns returns-2 returns-3)
