@@ -179,8 +179,11 @@ fn pair_is(e: &[u8], i: usize, x: u64, y: u64) -> bool
     requires { ⌜ i ≤ 1 ⌝ }
     ensures { λ r. ⌜ r ≡ pairIs (numbersOf (now (e .entry))) i x y ⌝ }
 {
+    if numbers::number(e, i) != x {
+        return false;
+    }
     let next = i + 1;
-    (next < numbers::count(e)) & ((numbers::number(e, i) == x) & (numbers::number(e, next) == y))
+    (next < numbers::count(e)) & (numbers::number(e, next) == y)
 }
 
 // Is the entry that e begins with under the key?
@@ -192,7 +195,10 @@ pub fn is_under(kind: usize, key: Key, e: &[u8]) -> bool
     if kind == REDUCED {
         return pair_is(e, 0, letter, column);
     }
-    (numbers::number(e, 0) == key.severity as u64) & pair_is(e, 1, letter, column)
+    if numbers::number(e, 0) != key.severity as u64 {
+        return false;
+    }
+    pair_is(e, 1, letter, column)
 }
 
 // The reduced single of the entry that e begins with.

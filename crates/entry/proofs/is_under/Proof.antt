@@ -5,7 +5,7 @@ use mathlib.Core.Path.{_≡_, sym, ap, _∙_}
 use mathlib.Core.Bool.{Bool, false, _&&_, and-false}
 use mathlib.Core.List.{List, [], _∷_}
 use native.Mathlib.Omega.{arith}
-use borrow.Author.Tests.{lt-ltb, le-ltb}
+use borrow.Author.Tests.{lt-ltb, le-ltb, eq-eqb, ne-eqb}
 use denote.Ref.{now}
 use lib.Dec.{eqb}
 use lib.ListN.{length, getD, take, drop, length-take, length-drop}
@@ -55,8 +55,16 @@ returns c =
 returns-2 : tie.Need-returns-2
 returns-2 c =
     let a = c .before .before .before .before .before .before .before .args in
-    rw (c .before .before .number .ensures .0, c .pair-is2 .ensures)
-    (by-three (a .kind) (a .key) (numbersOf (now (a .e))) (c .before .before .before .if1 .left))
+    let ws = numbersOf (now (a .e)) in
+    let other = ne-eqb (getD ws 0 0) (a .key .severity) (λ h. c .if2 .taken (c .before .before .number .ensures .0 ∙ h)) in
+    rw other at (by-three (a .kind) (a .key) ws (c .before .before .before .if1 .left))
+
+returns-3 : tie.Need-returns-3
+returns-3 c =
+    let a = c .before .before .before .before .before .before .before .before .args in
+    let ws = numbersOf (now (a .e)) in
+    let same = eq-eqb (getD ws 0 0) (a .key .severity) (sym (c .before .before .before .number .ensures .0) ∙ c .before .if2 .left) in
+    c .pair-is2 .ensures ∙ rw same at (by-three (a .kind) (a .key) ws (c .before .before .before .before .if1 .left))
 
 pub is-under-spec : {M : Type 1} → statement M
 is-under-spec =
@@ -68,5 +76,6 @@ is-under-spec =
     returns
     (λ c κs. search needs)
     (λ c. search needs)
+    returns-2
     (λ c κs. search needs)
-    returns-2)
+    returns-3)
