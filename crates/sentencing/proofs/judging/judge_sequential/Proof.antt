@@ -21,7 +21,8 @@ returns c =
     ∙ ap (beside zeroSequential planJudged)
     (judged-refused (sequentialPlan (askedPaper (a .lot)) (now (a .book)))
     (λ p. judgeSequence p (now (a .sample))) _ _
-    (lettered-refused zeroSequential (askedPaper (a .lot)) _ _ _ _ (c .before .before .before .before .before .sequential-plan .ensures) _ _
+    (lettered-refused zeroSequential (askedPaper (a .lot)) _ _ _ _
+    (c .before .before .before .before .before .sequential-plan .ensures) _ _
     (c .before .before .answer .given .1)))
 
 returns-2 : tie.Need-returns-2
@@ -29,7 +30,8 @@ unfolding judgeSequential
 returns-2 c =
     let a = c .before .before .before .before .before .before .before .before .args in
     let plan = sequentialPaper (c .before .before .before .before .before .sequential-plan .result .plan) in
-    let g = lettered-given zeroSequential (askedPaper (a .lot)) (sequentialPlan (askedPaper (a .lot)) (now (a .book))) _ _ plan
+    let g = lettered-given zeroSequential (askedPaper (a .lot)) (sequentialPlan (askedPaper (a .lot)) (now
+    (a .book))) _ _ plan
     (c .before .before .before .before .before .sequential-plan .ensures) (c .before .before .enum-told .given .1) in
     c .sequential-judged2 .ensures
     ∙ ap (beside zeroSequential planJudged)

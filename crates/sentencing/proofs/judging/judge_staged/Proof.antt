@@ -7,7 +7,8 @@ use Rattle.rules.specs.Entries.{stagedPlan, judgeStaged}
 use Rattle.plans.specs.Paper.{askedPaper, beside}
 use Rattle.entry.specs.Paper.{stagedPaper, noStages}
 use Rattle.closing.specs.Paper.{planJudged}
-use Rattle.sentencing.proofs.Verdicts.{lettered-refused, lettered-given, judged-refused, judged-given, staged-sample}
+use Rattle.sentencing.proofs.Verdicts.{lettered-refused, lettered-given, judged-refused, judged-given}
+use Rattle.sentencing.proofs.Verdicts.{staged-sample}
 use borrow.Author.Needs.{needs}
 use Rattle.sentencing.proofs.judging.judge_staged.Statement.{statement}
 use Rattle.sentencing.proofs.judging.judge_staged.Tie as tie
@@ -20,7 +21,8 @@ returns c =
     ∙ ap (beside noStages planJudged)
     (judged-refused (stagedPlan (askedPaper (a .lot)) (now (a .book)))
     (λ p. judgeStages (a .lot .column) p (now (a .sample))) _ _
-    (lettered-refused noStages (askedPaper (a .lot)) _ _ _ _ (c .before .before .before .before .before .staged-plan .ensures) _ _
+    (lettered-refused noStages (askedPaper (a .lot)) _ _ _ _
+    (c .before .before .before .before .before .staged-plan .ensures) _ _
     (c .before .before .answer .given .1)))
 
 returns-2 : tie.Need-returns-2

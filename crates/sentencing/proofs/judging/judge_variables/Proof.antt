@@ -11,7 +11,8 @@ use Rattle.plans.specs.Paper.{askedPaper, beside}
 use Rattle.entry.specs.Paper.{variablesPaper}
 use Rattle.closing.specs.Paper.{planJudged}
 use Rattle.sentencing.specs.Paper.{zeroVariables}
-use Rattle.sentencing.proofs.Verdicts.{lettered-refused, lettered-given, judged-refused, judged-given, variables-sample}
+use Rattle.sentencing.proofs.Verdicts.{lettered-refused, lettered-given, judged-refused, judged-given}
+use Rattle.sentencing.proofs.Verdicts.{variables-sample}
 use borrow.Author.Needs.{needs}
 use Rattle.sentencing.proofs.judging.judge_variables.Statement.{statement}
 use Rattle.sentencing.proofs.judging.judge_variables.Tie as tie
@@ -24,7 +25,8 @@ returns c =
     ∙ ap (beside zeroVariables planJudged)
     (judged-refused (variablesPlan (askedPaper (a .lot)) (now (a .book)))
     (λ p. judgeReadings (a .upper) p (a .limit) (now (a .readings))) _ _
-    (lettered-refused zeroVariables (askedPaper (a .lot)) _ _ _ _ (c .before .before .before .before .before .variables-plan .ensures) _ _
+    (lettered-refused zeroVariables (askedPaper (a .lot)) _ _ _ _
+    (c .before .before .before .before .before .variables-plan .ensures) _ _
     (c .before .before .answer .given .1)))
 
 returns-2 : tie.Need-returns-2
@@ -32,7 +34,8 @@ unfolding judgeVariables
 returns-2 c =
     let a = c .before .before .before .before .before .before .before .before .args in
     let plan = variablesPaper (c .before .before .before .before .before .variables-plan .result .plan) in
-    let g = lettered-given zeroVariables (askedPaper (a .lot)) (variablesPlan (askedPaper (a .lot)) (now (a .book))) _ _ plan
+    let g = lettered-given zeroVariables (askedPaper (a .lot)) (variablesPlan (askedPaper (a .lot)) (now
+    (a .book))) _ _ plan
     (c .before .before .before .before .before .variables-plan .ensures) (c .before .before .enum-told .given .1) in
     c .variables-judged2 .ensures
     ∙ ap (beside zeroVariables planJudged)
