@@ -1,12 +1,11 @@
 // Every case of document 01's 'Worked at the edges' run through the public entries, each printed with its answer.
 // (lotlog's listing is run by the program lotlog.)
+use history::Listed;
 use libc::STDOUT_FILENO;
+use plans::Asked;
 use plans::LetterAnswer;
-use plans::PlanAnswer;
-use samples::SampleAnswer;
-use sentencing::SequentialAnswer;
-use sentencing::VariablesAnswer;
-use severity::Listed;
+use plans::Outcome;
+use plans::VerdictAnswer;
 
 // Letters by their codes.
 const NAMES: [u8; 17] = *b"ABCDEFGHJKLMNPQRS";
@@ -152,14 +151,103 @@ fn letter(case: &[u8], size: u32, level: u32) {
 
 fn plan(case: &[u8], size: u32, level: u32, column: u32, severity: u32) {
     say(case);
-    match sentencing::single_plan(size, level, column, severity, &NO_BOOK) {
-        PlanAnswer::Refused(number, place) => say_refusal(number, place),
-        PlanAnswer::Given(p) => {
-            say_letter(p.letter);
+    let lot = Asked {
+        severity,
+        size,
+        level,
+        column,
+    };
+    let planned = sentencing::single_plan(lot, &NO_BOOK);
+    let answer = planned.answer;
+    match answer {
+        Outcome::Refused(number, place) => say_refusal(number, place),
+        Outcome::Given => {
+            say_letter(planned.plan.letter);
             say(b", ");
-            say_number(p.n as u64);
+            say_number(planned.plan.n as u64);
             say(b", Ac ");
-            say_number(p.ac as u64);
+            say_number(planned.plan.ac as u64);
+            say(b"\n");
+        }
+    }
+}
+
+// A lot of 10,000 at level II under normal inspection, which has letter L.
+fn lot_of_l(column: u32) -> Asked {
+    Asked {
+        severity: 0,
+        size: 10000,
+        level: 5,
+        column,
+    }
+}
+
+fn say_part(name: &[u8], n: u16) {
+    say(name);
+    say_number(n as u64);
+}
+
+// Seven places, 0 past the stages.
+fn say_seven(name: &[u8], numbers: [u16; 7]) {
+    say_part(name, numbers[0]);
+    say_part(b" ", numbers[1]);
+    say_part(b" ", numbers[2]);
+    say_part(b" ", numbers[3]);
+    say_part(b" ", numbers[4]);
+    say_part(b" ", numbers[5]);
+    say_part(b" ", numbers[6]);
+}
+
+fn staged_plan(case: &[u8], column: u32) {
+    say(case);
+    let planned = sentencing::staged_plan(lot_of_l(column), &BOOK);
+    let answer = planned.answer;
+    let plan = planned.plan;
+    match answer {
+        Outcome::Refused(number, place) => say_refusal(number, place),
+        Outcome::Given => {
+            say_letter(planned.letter);
+            say(b", stages ");
+            say_number(plan.stages as u64);
+            let sizes = plan.sizes;
+            let acs = plan.acs;
+            let res = plan.res;
+            say_seven(b", sizes ", sizes);
+            say_seven(b", Ac ", acs);
+            say_seven(b", Re ", res);
+            say(b"\n");
+        }
+    }
+}
+
+fn sequential_plan(case: &[u8], column: u32) {
+    say(case);
+    let planned = sentencing::sequential_plan(lot_of_l(column), &BOOK);
+    let answer = planned.answer;
+    match answer {
+        Outcome::Refused(number, place) => say_refusal(number, place),
+        Outcome::Given => {
+            say_letter(planned.letter);
+            say_part(b", hA ", planned.plan.ha);
+            say_part(b", hR ", planned.plan.hr);
+            say_part(b", g ", planned.plan.g);
+            say_part(b", nt ", planned.plan.nt);
+            say_part(b", At ", planned.plan.at_nt);
+            say(b"\n");
+        }
+    }
+}
+
+fn variables_plan(case: &[u8], column: u32) {
+    say(case);
+    let planned = sentencing::variables_plan(lot_of_l(column), &BOOK);
+    let answer = planned.answer;
+    match answer {
+        Outcome::Refused(number, place) => say_refusal(number, place),
+        Outcome::Given => {
+            say_letter(planned.letter);
+            say_part(b", n ", planned.plan.n);
+            say_part(b", K ", planned.plan.k);
             say(b"\n");
         }
     }
@@ -175,37 +263,39 @@ fn say_verdict(accepted: bool, used: u64) {
     say(b"\n");
 }
 
+fn say_answer(answer: VerdictAnswer) {
+    match answer {
+        VerdictAnswer::Refused(number, place) => say_refusal(number, place),
+        VerdictAnswer::Given(v) => say_verdict(v.accepted, v.used as u64),
+    }
+}
+
 fn sequential(case: &[u8], sample: &[u8]) {
     say(case);
-    match sentencing::judge_sequential(10000, 5, 10, 0, &BOOK, sample) {
-        SequentialAnswer::Refused(number, place) => say_refusal(number, place),
-        SequentialAnswer::Given(j) => say_verdict(j.verdict.accepted, j.verdict.used as u64),
-    }
+    let judged = sentencing::judge_sequential(lot_of_l(10), &BOOK, sample);
+    let answer = judged.answer;
+    say_answer(answer);
 }
 
 fn staged(case: &[u8], sample: &[u8]) {
     say(case);
-    let judged = sentencing::judge_staged(10000, 5, 10, 0, &BOOK, sample);
+    let judged = sentencing::judge_staged(lot_of_l(10), &BOOK, sample);
     let answer = judged.answer;
-    match answer {
-        SampleAnswer::Refused(number, place) => say_refusal(number, place),
-        SampleAnswer::Given(v) => say_verdict(v.accepted, v.used as u64),
-    }
+    say_answer(answer);
 }
 
 fn variables(case: &[u8], column: u32, limit: i32, readings: &[u8]) {
     say(case);
-    match sentencing::judge_variables(true, 10000, 5, column, 0, &BOOK, limit, readings) {
-        VariablesAnswer::Refused(number, place) => say_refusal(number, place),
-        VariablesAnswer::Given(j) => say_verdict(j.verdict.accepted, j.verdict.used as u64),
-    }
+    let judged = sentencing::judge_variables(true, lot_of_l(column), &BOOK, limit, readings);
+    let answer = judged.answer;
+    say_answer(answer);
 }
 
 // The severity after the last byte.
 fn history(case: &[u8], bytes: &[u8]) {
     say(case);
     let mut out = [0u8; 16];
-    match severity::list_severities(bytes, &mut out) {
+    match sentencing::list_severities(bytes, &mut out) {
         Listed::Refused(number, place) => say_refusal(number, place),
         Listed::Given(n) => {
             if 0 < n {
@@ -233,6 +323,15 @@ fn single_plans() {
     plan(b"tightened R, 0.025: ", 500001, 6, 2, 1);
     plan(b"normal A, 10: ", 8, 5, 15, 0);
     plan(b"size 10, II, 0.10: ", 10, 5, 5, 0);
+}
+
+fn book_plans() {
+    staged_plan(b"stages of normal L, 1.0: ", 10);
+    staged_plan(b"stages of normal L, 0.65: ", 9);
+    sequential_plan(b"lines of normal L, 1.0: ", 10);
+    sequential_plan(b"lines of normal L, 0.65: ", 9);
+    variables_plan(b"readings of normal L, 0.010: ", 0);
+    variables_plan(b"readings of normal L, 1.0: ", 10);
 }
 
 fn sequential_samples() {
@@ -289,6 +388,7 @@ fn histories() {
 fn main() {
     letters();
     single_plans();
+    book_plans();
     sequential_samples();
     staged_samples();
     variables_samples();

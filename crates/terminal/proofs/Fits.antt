@@ -1,10 +1,11 @@
--- What the terminal hands over fits its numbers: a refusal's place is at most 32,768, and the items used are at most
--- 14,000.
+-- What the terminal hands over fits its numbers: a refusal's place is at most 32,768, the items or readings used are at
+-- most 14,000, and what is written to a lent record has seven bytes.
 -- Assumes nothing.
 use Prim.Native.Nat.{ℕ, zero, suc, _+_, _*_, _≤_}
 use mathlib.Core.Path.{_≡_, refl, sym, ap, _∙_}
 use mathlib.Core.Bool.{Bool, true, false, cond}
 use mathlib.Core.List.{List}
+use lib.IntN.{ℤ}
 use native.Mathlib.Omega.{arith}
 use borrow.Author.Tests.{ltb-false}
 use lib.Dec.{ltb}
@@ -15,21 +16,32 @@ use Rattle.rules.specs.Verdict.{Verdict, Judged}
 use Rattle.rules.specs.Single.{Plan}
 use Rattle.rules.specs.Staged.{StagedPlan, totalSize, stagesFrom}
 use Rattle.rules.specs.Sequential.{SequentialPlan}
+use Rattle.rules.specs.Variables.{VariablesPlan}
 use Rattle.rules.specs.Book.{Walk, ends, broken, short, sound, brokenAt, Checked, checkedAs, checkBook, sections, kinds}
-use Rattle.rules.specs.Entries.{Asked, judgeSingle, judgeStaged, judgeSequential, Closed, Offered}
+use Rattle.rules.specs.Entries.{Asked, judgeSingle, judgeStaged, judgeSequential, judgeVariables, Closed, Offered}
 use Rattle.rules.specs.Entries.{askedOn, closeSingle, closeStaged}
 use Rattle.rules.specs.Severity.{Record, inRange}
-use Rattle.terminal.specs.Lent.{bookChecked}
+use Rattle.rules.specs.Terminal.{recordBytes, recordIn}
+use Rattle.rules.specs.PlanRules.{StagedRight, SequentialRight}
+use Rattle.rules.specs.Reporting.{NoRow, Reports, OnBook}
+use Rattle.rules.specs.Judging.{EndsAtStage}
+use Rattle.plans.specs.Paper.{verdictAnswer, verdictOn}
+use Rattle.plans.specs.declared.Verdict as code
+use Rattle.plans.specs.declared.VerdictAnswer.{VerdictAnswer}
+use Rattle.plans.specs.declared.VerdictAnswer.the-variants as verdicts
+use Rattle.closing.specs.Paper.{closedOn, closedPaper}
+use Rattle.closing.specs.declared.Closed as lots
+use Rattle.closing.specs.declared.ClosedAnswer.{ClosedAnswer}
+use Rattle.closing.specs.declared.ClosedAnswer.the-variants as closes
+use Rattle.terminal.specs.Lent.{bookChecked, VerdictFits, ClosedFits}
 use Rattle.rules.proofs.Numbers.{numbers-low}
 use Rattle.rules.proofs.Walks.{place, place-sections}
-use Rattle.rules.proofs.Refusals.{NoRow, Reports, nothing-wrong, refused-place}
-use Rattle.rules.proofs.EntryLaws.{OnBook, on-book}
-use Rattle.rules.proofs.Deciding.{EndsAtStage, never-past}
-use Rattle.rules.proofs.HeldPlans.{SequentialRight}
-use Rattle.rules.proofs.HeldStaged.{StagedRight}
-use Rattle.rules.proofs.GivenPlans.{single-given, staged-given, sequential-given}
-use Rattle.rules.proofs.Demands.Two.{judge-single-given, judge-staged-given, judge-sequential-given}
-use Rattle.rules.proofs.Demands.Two.{close-single-given, close-staged-given}
+use Rattle.rules.proofs.Refusals.{nothing-wrong, refused-place}
+use Rattle.rules.proofs.EntryLaws.{on-book}
+use Rattle.rules.proofs.Deciding.{never-past}
+use Rattle.rules.proofs.GivenPlans.{single-given, staged-given, sequential-given, variables-given}
+use Rattle.rules.proofs.Demands.Two as two
+use Rattle.terminal.proofs.Lending.{in-range-length}
 
 -- a broken book's byte is within the largest book
 byte-of : {b c : ℕ} → brokenAt b ≡ brokenAt c → b ≡ c
@@ -80,50 +92,108 @@ book-place-fits {a = a} book r {n} {p} e = go (checkBook book) refl
 pub checked : (book : List ℕ) → OnBook book NoRow (bookChecked book)
 checked book = on-book book nothing-wrong
 
+-- what fits says of a refusal, and of what is given
+pub verdict-place : {v : VerdictAnswer} {n p : ℕ} → v ≡ verdicts.Refused n p → VerdictFits (verdictAnswer v)
+    → p ≤ 32768
+verdict-place e f = rw e at f
+
+pub verdict-few : {v : VerdictAnswer} {w : code.Verdict} → v ≡ verdicts.Given w → VerdictFits (verdictAnswer v)
+    → w .used ≤ 14000
+verdict-few e f = rw e at f
+
+pub closed-place : (bytes : List ℕ) {v : ClosedAnswer} {n p : ℕ} → v ≡ closes.Refused n p
+    → ClosedFits (closedPaper v) bytes → p ≤ 32768
+closed-place bytes e f = rw e at f
+
+pub closed-few : (bytes : List ℕ) {v : ClosedAnswer} {w : lots.Closed} → v ≡ closes.Given w
+    → ClosedFits (closedPaper v) bytes → (w .verdict .used ≤ 14000) × (length bytes ≡ recordBytes)
+closed-few bytes e f = rw e at f
+
+-- A verdict that a sample on a book's plan gives, if its items fit.
+verdict-fits : {P : Type 0} {Wrong : ℕ → Type 0} {a : Answer (Judged P Verdict)} (book : List ℕ) → OnBook book Wrong a
+    → ((j : Judged P Verdict) → a ≡ given j → j .verdict .used ≤ 14000) → (v : VerdictAnswer) (plan : P)
+    → verdictOn v plan ≡ a → VerdictFits (verdictAnswer v)
+verdict-fits book r few (verdicts.Refused n p) plan e = book-place-fits book r e
+verdict-fits book r few (verdicts.Given w) plan e = few _ (sym e)
+
 -- The items used: the plan's n or fewer.
-pub single-used : (q : Asked) (book sample : List ℕ) (j : Judged Plan Verdict) → given j ≡ judgeSingle q book sample
-    → j .verdict .used ≤ 14000
-single-used q book sample j e =
-    let g = judge-single-given q book sample j .0 (sym e) in
-    let u : j .plan .n ≡ j .verdict .used = ap (λ (v : Verdict). v .used) (g .1 .verdict) in
-    omega (arith, single-given q book (j .plan) (g .0) .0 .few)
+module _ (q : Asked) (book sample : List ℕ) where
+  single-used : (j : Judged Plan Verdict) → judgeSingle q book sample ≡ given j → j .verdict .used ≤ 14000
+  single-used j e =
+      let g = two.judge-single-given q book sample j .0 e in
+      let u : j .plan .n ≡ j .verdict .used = ap (λ (v : Verdict). v .used) (g .1 .verdict) in
+      omega (arith, single-given q book (j .plan) (g .0) .few)
 
--- the first k stages from the i-th have 2,000 items each or fewer
-stages-size : (p : StagedPlan) → StagedRight p → (k i : ℕ) → i + k ≤ p .stages
-    → totalSize (stagesFrom k i p) ≤ 2000 * k
-unfolding totalSize stagesFrom
-stages-size p r zero i h = omega arith
-stages-size p r (suc k) i h =
-    let a : getD (p .sizes) i 0 ≤ 2000 = r .size i (omega arith) .1 in
-    omega (arith, stages-size p r k (suc i) (omega arith))
+  pub single-fits : (v : VerdictAnswer) (plan : Plan) → verdictOn v plan ≡ judgeSingle q book sample
+      → VerdictFits (verdictAnswer v)
+  single-fits = verdict-fits book (two.judge-single-refused q book sample) single-used
 
-pub staged-used : (q : Asked) (book sample : List ℕ) (j : Judged StagedPlan Verdict)
-    → given j ≡ judgeStaged q book sample → j .verdict .used ≤ 14000
-staged-used q book sample j e =
-    let g = judge-staged-given q book sample j .0 (sym e) in
-    let s : EndsAtStage (q .column) (j .plan) sample (j .verdict) = g .1 in
-    let u : length (numbersOf sample) ≡ j .verdict .used = ap (λ (v : Verdict). v .used) (s .verdict) in
-    let r : StagedRight (j .plan) = staged-given q book (j .plan) (g .0) .0 in
-    let t = stages-size (j .plan) r (suc (s .done)) 0 (omega (arith, s .among)) in
-    omega (arith, s .ends, s .among, r .few .1, t)
+  -- the first k stages from the i-th have 2,000 items each or fewer
+  stages-size : (p : StagedPlan) → StagedRight p → (k i : ℕ) → i + k ≤ p .stages
+      → totalSize (stagesFrom k i p) ≤ 2000 * k
+  unfolding totalSize stagesFrom
+  stages-size p r zero i h = omega arith
+  stages-size p r (suc k) i h =
+      let a : getD (p .sizes) i 0 ≤ 2000 = r .size i (omega arith) .1 in
+      omega (arith, stages-size p r k (suc i) (omega arith))
 
-pub sequential-used : (q : Asked) (book sample : List ℕ) (j : Judged SequentialPlan Verdict)
-    → given j ≡ judgeSequential q book sample → j .verdict .used ≤ 14000
-sequential-used q book sample j e =
-    let g = judge-sequential-given q book sample j .0 (sym e) in
-    let r : SequentialRight (j .plan) = sequential-given q book (j .plan) (g .0) .0 in
-    omega (arith, never-past (j .plan) (r .nt .0) sample (j .verdict) (g .1), r .nt .1)
+  staged-used : (j : Judged StagedPlan Verdict) → judgeStaged q book sample ≡ given j → j .verdict .used ≤ 14000
+  staged-used j e =
+      let g = two.judge-staged-given q book sample j .0 e in
+      let s : EndsAtStage (q .column) (j .plan) sample (j .verdict) = g .1 in
+      let u : length (numbersOf sample) ≡ j .verdict .used = ap (λ (v : Verdict). v .used) (s .verdict) in
+      let r : StagedRight (j .plan) = staged-given q book (j .plan) (g .0) in
+      let t = stages-size (j .plan) r (suc (s .done)) 0 (omega (arith, s .among)) in
+      omega (arith, s .ends, s .among, r .few .1, t)
 
--- A lot that is closed has a record in range, and is judged as it is judged alone.
-module _ (r : Record) (o : Offered) (book sample : List ℕ) where
-  pub single-closes : {c : Closed Plan} → given c ≡ closeSingle r o book sample
-      → (inRange r ≡ true) × (c .judged .verdict .used ≤ 14000)
-  single-closes {c} e =
-      let k = close-single-given r o book sample c .0 (sym e) in
-      (k .in-range, single-used (askedOn r o) book sample (c .judged) (sym (k .as-judged)))
+  pub staged-fits : (v : VerdictAnswer) (plan : StagedPlan) → verdictOn v plan ≡ judgeStaged q book sample
+      → VerdictFits (verdictAnswer v)
+  staged-fits = verdict-fits book (two.judge-staged-refused q book sample) staged-used
 
-  pub staged-closes : {c : Closed StagedPlan} → given c ≡ closeStaged r o book sample
-      → (inRange r ≡ true) × (c .judged .verdict .used ≤ 14000)
-  staged-closes {c} e =
-      let k = close-staged-given r o book sample c .0 (sym e) in
-      (k .in-range, staged-used (askedOn r o) book sample (c .judged) (sym (k .as-judged)))
+  sequential-used : (j : Judged SequentialPlan Verdict) → judgeSequential q book sample ≡ given j
+      → j .verdict .used ≤ 14000
+  sequential-used j e =
+      let g = two.judge-sequential-given q book sample j .0 e in
+      let r : SequentialRight (j .plan) = sequential-given q book (j .plan) (g .0) in
+      omega (arith, never-past (j .plan) (r .nt .0) sample (j .verdict) (g .1), r .nt .1)
+
+  pub sequential-fits : (v : VerdictAnswer) (plan : SequentialPlan) → verdictOn v plan ≡ judgeSequential q book sample
+      → VerdictFits (verdictAnswer v)
+  sequential-fits = verdict-fits book (two.judge-sequential-refused q book sample) sequential-used
+
+  module _ (upper : Bool) (limit : ℤ) where
+    variables-used : (j : Judged VariablesPlan Verdict) → judgeVariables upper q book limit sample ≡ given j
+        → j .verdict .used ≤ 14000
+    variables-used j e =
+        let g = two.judge-variables-given q book sample upper limit j .0 e in
+        let u : j .plan .n ≡ j .verdict .used = ap (λ (v : Verdict). v .used) (g .1 .verdict) in
+        omega (arith, variables-given q book (j .plan) (g .0) .0 .fifty)
+
+    pub variables-fits : (v : VerdictAnswer) (plan : VariablesPlan)
+        → verdictOn v plan ≡ judgeVariables upper q book limit sample → VerdictFits (verdictAnswer v)
+    variables-fits = verdict-fits book (two.judge-variables-refused q book sample upper limit) variables-used
+
+-- A lot that is closed has a record in range, and so of seven bytes, and is judged as it is judged alone.
+closed-fits : {P : Type 0} {Wrong : ℕ → Type 0} {a : Answer (Closed P)} (bytes book : List ℕ) → OnBook book Wrong a
+    → ((c : Closed P) → a ≡ given c → (inRange (recordIn bytes) ≡ true) × (c .judged .verdict .used ≤ 14000))
+    → (v : ClosedAnswer) (plan : P) → closedOn v plan ≡ a → ClosedFits (closedPaper v) bytes
+closed-fits bytes book r few (closes.Refused n p) plan e = book-place-fits book r e
+closed-fits bytes book r few (closes.Given c) plan e =
+    let f = few _ (sym e) in (f .1, in-range-length bytes (f .0))
+
+module _ (bytes : List ℕ) (o : Offered) (book sample : List ℕ) where
+  pub single-closes : (v : ClosedAnswer) (plan : Plan) → closedOn v plan ≡ closeSingle (recordIn bytes) o book sample
+      → ClosedFits (closedPaper v) bytes
+  single-closes =
+      closed-fits bytes book (two.close-single-refused (recordIn bytes) o book sample)
+      (λ c e.
+      let k = two.close-single-given (recordIn bytes) o book sample c .0 e in
+      (k .in-range, single-used (askedOn (recordIn bytes) o) book sample (c .judged) (k .as-judged)))
+
+  pub staged-closes : (v : ClosedAnswer) (plan : StagedPlan)
+      → closedOn v plan ≡ closeStaged (recordIn bytes) o book sample → ClosedFits (closedPaper v) bytes
+  staged-closes =
+      closed-fits bytes book (two.close-staged-refused (recordIn bytes) o book sample)
+      (λ c e.
+      let k = two.close-staged-given (recordIn bytes) o book sample c .0 e in
+      (k .in-range, staged-used (askedOn (recordIn bytes) o) book sample (c .judged) (k .as-judged)))

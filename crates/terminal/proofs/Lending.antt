@@ -1,30 +1,46 @@
--- Lent memory by the code's exits: the record that bytes hold, its bytes put back, and what a refusal and an answer
--- leave.
+-- Lent memory by the code's exits: the record that bytes hold, its bytes put back, a staged plan's row, and what a
+-- refusal and an answer leave.
 -- Assumes nothing.
-use Prim.Native.Nat.{ℕ, _+_, _*_, _≤_, _<_}
+use Prim.Native.Nat.{ℕ, suc, _+_, _*_, _/_, _%_, _≤_, _<_, min}
 use mathlib.Core.Path.{_≡_, refl, sym, ap, _∙_}
 use mathlib.Core.Bool.{Bool, true, false, false≢true}
-use mathlib.Core.List.{List, [], _∷_}
+use mathlib.Core.List.{List, [], _∷_, _++_}
 use native.Mathlib.Omega.{arith}
-use lib.ListN.{length, getD, set}
+use lib.ListN.{length, getD, set, drop}
+use lib.Seq.{sets}
 use lib.Dec.{eqb}
 use lib.Ieee.{Float}
-use borrow.Author.Tests.{eqb-true, le-leb, lt-leb, eq-eqb, ne-eqb}
-use Rattle.rules.specs.Refusals.{Answer, refused, given}
+use borrow.Author.Tests.{eqb-true, le-leb, lt-leb, eq-eqb, ne-eqb, lt-ltb, le-ltb}
+use Rattle.rules.specs.Refusals.{Answer, refused, given, bufferShort}
+use Rattle.rules.specs.Verdict.{Verdict, Judged}
 use Rattle.rules.specs.Single.{Plan}
 use Rattle.rules.specs.Staged.{StagedPlan}
+use Rattle.rules.specs.Sequential.{SequentialPlan}
+use Rattle.rules.specs.Variables.{VariablesPlan}
 use Rattle.rules.specs.Severity.{Record, inRange}
 use Rattle.rules.specs.Screen.{Shown, mean, meanAndVariance}
 use Rattle.rules.specs.Terminal.{statusOf, recordBytes, flag, bytesOf, hasForm, outOfForm, recordIn}
-use Rattle.rules.specs.History.{ours}
-use Rattle.rules.specs.Entries.{next, Closed}
+use Rattle.rules.specs.Terminal.{largestPlace, rowLength, rowBytes}
+use Rattle.rules.specs.History.{ours, byteOf}
+use Rattle.rules.specs.Entries.{next, Lettered, Closed}
 use Rattle.rules.proofs.Demands.Two as two
 use Rattle.rules.proofs.Bools.{and-left}
 use Rattle.rules.proofs.Terminal.{form-missing}
-use Rattle.severity.specs.Paper.{paperRecord}
+use Rattle.plans.specs.Paper.{Beside, beside, itself, outcomeOn, verdictAnswer, verdictOn}
+use Rattle.plans.specs.declared.Outcome.{Outcome}
+use Rattle.plans.specs.declared.Outcome.the-variants as outcomes
+use Rattle.plans.specs.declared.VerdictAnswer.{VerdictAnswer}
+use Rattle.plans.specs.declared.VerdictAnswer.the-variants as verdicts
+use Rattle.severity.specs.Paper.{recordPaper}
 use Rattle.severity.specs.declared.Record as code
-use Rattle.sentencing.specs.Paper.{Beside, beside}
-use Rattle.terminal.specs.Lent.{PlanLeft, OutcomeLeft, ClosedLeft, NextLeft, ScreenLeft}
+use Rattle.history.specs.Paper.{listedPaper, Lists}
+use Rattle.history.specs.declared.Listed.{Listed}
+use Rattle.history.specs.declared.Listed.the-variants as listing
+use Rattle.closing.specs.Paper.{closedOn, closedPaper}
+use Rattle.closing.specs.declared.ClosedAnswer.{ClosedAnswer}
+use Rattle.closing.specs.declared.ClosedAnswer.the-variants as closes
+use Rattle.terminal.specs.Lent.{LetterLeft, PlanLeft, StagedPlanLeft, SequentialPlanLeft, VariablesPlanLeft}
+use Rattle.terminal.specs.Lent.{OutcomeLeft, VerdictTold, VerdictLeft, ClosedLeft, NextLeft, ListLeft, ScreenLeft}
 
 module _ (bytes : List ℕ) where
   -- the figures of bytes of the right form
@@ -74,7 +90,7 @@ pub put-all : (bytes : List ℕ) (new : code.Record) (f g : ℕ) → length byte
     → set
     (set (set (set (set (set (set bytes 0 (new .severity)) 1 (new .score)) 2 (new .run)) 3 (new .count)) 4
     (new .window)) 5 f) 6 g
-    ≡ bytesOf (paperRecord new)
+    ≡ bytesOf (recordPaper new)
 put-all [] new f g h p q = absurd (omega arith)
 put-all (_ ∷ []) new f g h p q = absurd (omega arith)
 put-all (_ ∷ _ ∷ []) new f g h p q = absurd (omega arith)
@@ -95,11 +111,31 @@ next-length bytes byte {t} e =
 pub met : {R A : Type 0} (paper : R → Answer A) {r x : R} {a : Answer A} → r ≡ x → paper r ≡ a → paper x ≡ a
 met paper e f = ap paper (sym e) ∙ f
 
--- the answer that stands beside a staged plan
-pub beside-answer : {A : Type 0} (planOf : A → StagedPlan) (r : Beside A) (a : Answer A) → r ≡ beside planOf a
-    → r .answer ≡ a
-beside-answer {A} planOf r (refused n p) e = ap (λ (b : Beside A). b .answer) e
-beside-answer {A} planOf r (given x) e = ap (λ (b : Beside A). b .answer) e
+pub told : {R A : Type 0} (paper : R → Answer A) {r x : R} → r ≡ x → paper x ≡ paper r
+told paper e = ap paper (sym e)
+
+-- the answer that stands beside a plan
+pub beside-answer : {P A : Type 0} (zeros : P) (planOf : A → P) (r : Beside P A) (a : Answer A)
+    → r ≡ beside zeros planOf a → r .answer ≡ a
+beside-answer {P} {A} zeros planOf r (refused n p) e = ap (λ (b : Beside P A). b .answer) e
+beside-answer {P} {A} zeros planOf r (given x) e = ap (λ (b : Beside P A). b .answer) e
+
+-- what an answer with a plan beside it says: refused, or given that plan
+module _ {P : Type 0} (zeros : P) {o : Outcome} {plan : P} {a : Answer P} where
+  -- the case that it came to
+  outcome-met : {x : Outcome} → record { answer = outcomeOn o plan; plan = plan } ≡ beside zeros itself a → o ≡ x
+      → outcomeOn x plan ≡ a
+  outcome-met e f =
+      met (λ (y : Outcome). outcomeOn y plan) f
+      (beside-answer zeros itself (record { answer = outcomeOn o plan; plan = plan }) a e)
+
+  pub planned-refused : {n p : ℕ} → record { answer = outcomeOn o plan; plan = plan } ≡ beside zeros itself a
+      → o ≡ outcomes.Refused n p → refused n p ≡ a
+  planned-refused e f = outcome-met e f
+
+  pub planned-given : record { answer = outcomeOn o plan; plan = plan } ≡ beside zeros itself a → o ≡ outcomes.Given
+      → given plan ≡ a
+  planned-given e f = outcome-met e f
 
 -- What a refusal and an answer tell and leave.
 module _ {A : Type 0} {a : Answer A} where
@@ -109,6 +145,13 @@ module _ {A : Type 0} {a : Answer A} where
   pub told-given : {x : A} → given x ≡ a → 0 ≡ statusOf a
   told-given e = rw (← e)
 
+module _ {a : Answer ℕ} {l : ℕ} where
+  pub letter-refused : {n p s : ℕ} → refused n p ≡ a → s ≡ n + 256 * p → LetterLeft a s l l
+  letter-refused e f = record { status = told-refused e f; letter-left = rw (← e) }
+
+  pub letter-given : {x : ℕ} → given x ≡ a → LetterLeft a 0 l x
+  letter-given e = record { status = told-given e; letter-left = rw (← e) }
+
 module _ {a : Answer Plan} {l m c : ℕ} where
   pub plan-refused : {n p s : ℕ} → refused n p ≡ a → s ≡ n + 256 * p → PlanLeft a s l l m m c c
   plan-refused e f =
@@ -117,22 +160,115 @@ module _ {a : Answer Plan} {l m c : ℕ} where
   pub plan-given : {x : Plan} → given x ≡ a → PlanLeft a 0 l (x .letter) m (x .n) c (x .ac)
   plan-given e = record { status = told-given e; letter-left = rw (← e); n-left = rw (← e); ac-left = rw (← e) }
 
+module _ (a : Answer (Lettered StagedPlan)) {l s : ℕ} {row : List ℕ} where
+  pub staged-refused : {n p t : ℕ} → refused n p ≡ a → t ≡ n + 256 * p → StagedPlanLeft a t l l s s row row
+  staged-refused e f =
+      rw (← e) (record { status = f; letter-left = refl; stages-left = refl; row-left = refl })
+
+  pub row-short : {x : Lettered StagedPlan} {t : ℕ} → given x ≡ a → length row < rowLength → t ≡ bufferShort
+      → StagedPlanLeft a t l l s s row row
+  row-short e h f =
+      rw (← e, lt-ltb (length row) rowLength h)
+      (record { status = f; letter-left = refl; stages-left = refl; row-left = refl })
+
+  pub row-given : {x : Lettered StagedPlan} {row′ : List ℕ} → given x ≡ a → rowLength ≤ length row
+      → row′ ≡ rowBytes (x .plan) ++ drop rowLength row
+      → StagedPlanLeft a 0 l (x .letter) s (x .plan .stages) row row′
+  row-given e h f =
+      rw (← e, le-ltb (length row) rowLength h)
+      (record { status = refl; letter-left = refl; stages-left = refl; row-left = f })
+
+module _ {a : Answer (Lettered SequentialPlan)} {l ha hr g nt at : ℕ} where
+  pub sequential-refused : {n p s : ℕ} → refused n p ≡ a → s ≡ n + 256 * p
+      → SequentialPlanLeft a s l l ha ha hr hr g g nt nt at at
+  sequential-refused e f =
+      record {
+        status = told-refused e f;
+        letter-left = rw (← e);
+        ha-left = rw (← e);
+        hr-left = rw (← e);
+        g-left = rw (← e);
+        nt-left = rw (← e);
+        at-left = rw (← e);
+      }
+
+  pub sequential-given : {x : Lettered SequentialPlan} → given x ≡ a
+      → SequentialPlanLeft a 0 l (x .letter) ha (x .plan .hA) hr (x .plan .hR) g (x .plan .g) nt (x .plan .nt) at
+      (x .plan .atNt)
+  sequential-given e =
+      record {
+        status = told-given e;
+        letter-left = rw (← e);
+        ha-left = rw (← e);
+        hr-left = rw (← e);
+        g-left = rw (← e);
+        nt-left = rw (← e);
+        at-left = rw (← e);
+      }
+
+module _ {a : Answer (Lettered VariablesPlan)} {l m k : ℕ} where
+  pub variables-refused : {n p s : ℕ} → refused n p ≡ a → s ≡ n + 256 * p → VariablesPlanLeft a s l l m m k k
+  variables-refused e f =
+      record { status = told-refused e f; letter-left = rw (← e); n-left = rw (← e); k-left = rw (← e) }
+
+  pub variables-given : {x : Lettered VariablesPlan} → given x ≡ a
+      → VariablesPlanLeft a 0 l (x .letter) m (x .plan .n) k (x .plan .k)
+  variables-given e = record { status = told-given e; letter-left = rw (← e); n-left = rw (← e); k-left = rw (← e) }
+
 -- a verdict, of whatever was judged
-module _ {A : Type 0} {acceptedBy : A → Bool} {usedBy : A → ℕ} {a : Answer A} {b u : ℕ} where
-  pub outcome-refused : {n p s : ℕ} → refused n p ≡ a → s ≡ n + 256 * p → OutcomeLeft acceptedBy usedBy a s b b u u
+module _ {A : Type 0} {verdictOf : A → Verdict} {a : Answer A} {b u : ℕ} where
+  pub outcome-refused : {n p s : ℕ} → refused n p ≡ a → s ≡ n + 256 * p → OutcomeLeft verdictOf a s b b u u
   outcome-refused e f = record { status = told-refused e f; accepted-left = rw (← e); used-left = rw (← e) }
 
-  pub outcome-given : {x : A} {b′ u′ : ℕ} → given x ≡ a → b′ ≡ flag (acceptedBy x) → u′ ≡ usedBy x
-      → OutcomeLeft acceptedBy usedBy a 0 b b′ u u′
+  pub outcome-given : {x : A} {b′ u′ : ℕ} → given x ≡ a → b′ ≡ flag (verdictOf x .accepted) → u′ ≡ verdictOf x .used
+      → OutcomeLeft verdictOf a 0 b b′ u u′
   outcome-given e f g = record { status = told-given e; accepted-left = rw (← e) f; used-left = rw (← e) g }
 
-module _ {P : Type 0} {a : Answer (Closed P)} {bytes : List ℕ} {b u : ℕ} where
-  pub closed-refused : {n p s : ℕ} → refused n p ≡ a → s ≡ n + 256 * p → ClosedLeft a s bytes bytes b b u u
-  closed-refused e f = record { outcome = outcome-refused e f; bytes-left = rw (← e) }
+-- a verdict is told as that of the sample on its plan
+pub verdict-left : {P : Type 0} (v : VerdictAnswer) (plan : P) {a : Answer (Judged P Verdict)} {r b b′ u u′ : ℕ}
+    → verdictOn v plan ≡ a → VerdictTold (verdictAnswer v) r b b′ u u′ → VerdictLeft a r b b′ u u′
+verdict-left (verdicts.Refused n p) plan e t =
+    rw (← e) (record { status = t .status; accepted-left = t .accepted-left; used-left = t .used-left })
+verdict-left (verdicts.Given w) plan e t =
+    rw (← e) (record { status = t .status; accepted-left = t .accepted-left; used-left = t .used-left })
 
-  pub closed-given : {x : Closed P} {bytes′ : List ℕ} {b′ u′ : ℕ} → given x ≡ a → bytes′ ≡ bytesOf (x .recordAfter)
-      → b′ ≡ flag (x .judged .verdict .accepted) → u′ ≡ x .judged .verdict .used → ClosedLeft a 0 bytes bytes′ b b′ u u′
-  closed-given e f g h = record { outcome = outcome-given e g h; bytes-left = rw (← e) f }
+module _ {P : Type 0} {a : Answer (Closed P)} {bytes : List ℕ} {b u c : ℕ} where
+  pub closed-refused : {n p s : ℕ} → refused n p ≡ a → s ≡ n + 256 * p → ClosedLeft a s bytes bytes b b u u c c
+  closed-refused e f = record { outcome = outcome-refused e f; bytes-left = rw (← e); byte-left = rw (← e) }
+
+  pub closed-given : {x : Closed P} {bytes′ : List ℕ} {b′ u′ c′ : ℕ} → given x ≡ a → bytes′ ≡ bytesOf (x .recordAfter)
+      → b′ ≡ flag (x .judged .verdict .accepted) → u′ ≡ x .judged .verdict .used → c′ ≡ byteOf (x .event)
+      → ClosedLeft a 0 bytes bytes′ b b′ u u′ c c′
+  closed-given e f g h k = record { outcome = outcome-given e g h; bytes-left = rw (← e) f; byte-left = rw (← e) k }
+
+-- a lot closed is told as that on its plan
+pub closed-left : {P : Type 0} (v : ClosedAnswer) (plan : P) {a : Answer (Closed P)} {bytes bytes′ : List ℕ}
+    {r b b′ u u′ c c′ : ℕ} → closedOn v plan ≡ a → ClosedLeft (closedPaper v) r bytes bytes′ b b′ u u′ c c′
+    → ClosedLeft a r bytes bytes′ b b′ u u′ c c′
+closed-left (closes.Refused n p) plan e t =
+    rw (← e)
+    (record {
+      outcome =
+          record {
+            status = t .outcome .status;
+            accepted-left = t .outcome .accepted-left;
+            used-left = t .outcome .used-left;
+          };
+      bytes-left = t .bytes-left;
+      byte-left = t .byte-left;
+    })
+closed-left (closes.Given w) plan e t =
+    rw (← e)
+    (record {
+      outcome =
+          record {
+            status = t .outcome .status;
+            accepted-left = t .outcome .accepted-left;
+            used-left = t .outcome .used-left;
+          };
+      bytes-left = t .bytes-left;
+      byte-left = t .byte-left;
+    })
 
 module _ {a : Answer Record} {bytes : List ℕ} where
   pub next-refused : {n p s : ℕ} → refused n p ≡ a → s ≡ n + 256 * p → NextLeft a s bytes bytes
@@ -140,6 +276,15 @@ module _ {a : Answer Record} {bytes : List ℕ} where
 
   pub next-given : {t : Record} {bytes′ : List ℕ} → given t ≡ a → bytes′ ≡ bytesOf t → NextLeft a 0 bytes bytes′
   next-given e f = record { status = told-given e; bytes-left = rw (← e) f }
+
+-- the list's answer in 64 bits, and its buffer
+module _ {h out last : List ℕ} {r : Listed} (l : Lists ours h out last r) where
+  pub list-refused : {n k s : ℕ} → r ≡ listing.Refused n k → s ≡ n + 256 * min k largestPlace → ListLeft h s out last
+  list-refused e f =
+      record { status = rw (← met listedPaper e (l .answer)) f; severities-left = l .buffer }
+
+  pub list-given : {m : ℕ} → r ≡ listing.Given m → ListLeft h 0 out last
+  list-given e = record { status = rw (← met listedPaper e (l .answer)); severities-left = l .buffer }
 
 module _ {a : Answer Shown} {m v : Float} {b : ℕ} where
   pub screen-refused : {n p s : ℕ} → refused n p ≡ a → s ≡ n + 256 * p → ScreenLeft a s m m v v b b

@@ -1,2 +1,4 @@
 pub mod Fits
 pub mod Lending
+pub mod OneResult
+pub mod Rows

@@ -1,20 +1,39 @@
 -- What a call promises, of the answer that a definition gives: the status that it returns, and what each out-parameter
--- and the lent record hold then. A primed name is what stands at exit. Definitions only.
-use Prim.Native.Nat.{ℕ}
+-- and the lent memory hold then. A primed name is what stands at exit. Definitions only.
+use Prim.Native.Nat.{ℕ, _≤_}
 use mathlib.Core.Path.{_≡_}
 use mathlib.Core.Bool.{Bool, not}
 use mathlib.Core.List.{List}
 use lib.Dec.{eqb}
 use lib.Ieee.{Float}
-use Rattle.rules.specs.Refusals.{Answer, given}
+use lib.ListN.{length}
+use Rattle.rules.specs.Refusals.{Answer, refused, given, andThen}
 use Rattle.rules.specs.Book.{checkBook, onSound}
 use Rattle.rules.specs.Verdict.{Verdict, Judged}
 use Rattle.rules.specs.Single.{Plan}
-use Rattle.rules.specs.Variables.{Gauged}
+use Rattle.rules.specs.Staged.{StagedPlan}
+use Rattle.rules.specs.Sequential.{SequentialPlan}
+use Rattle.rules.specs.Variables.{VariablesPlan}
 use Rattle.rules.specs.Severity.{Record}
-use Rattle.rules.specs.Entries.{Closed}
+use Rattle.rules.specs.History.{ours, byteOf, listed, leftIn}
+use Rattle.rules.specs.Entries.{Asked, Offered, Lettered, Closed}
 use Rattle.rules.specs.Screen.{Shown, mean, meanAndVariance}
-use Rattle.rules.specs.Terminal.{statusOf, leftBy, flag, bytesOf}
+use Rattle.rules.specs.Terminal.{statusOf, wideStatusOf, leftBy, flag, recordBytes, bytesOf, intoRow, rowLeft}
+
+-- a lot by the numbers that a call names it with
+abbrev pub asked : ℕ → ℕ → ℕ → ℕ → Asked
+asked severity size level column = record { severity = severity; size = size; level = level; column = column }
+
+abbrev pub offered : Bool → ℕ → ℕ → ℕ → Offered
+offered again size level column = record { again = again; size = size; level = level; column = column }
+
+-- 0 is an original lot, anything else a resubmitted one
+abbrev pub again : ℕ → Bool
+again resubmitted = not (eqb resubmitted 0)
+
+pub record LetterLeft (answer : Answer ℕ) (r letter letter′ : ℕ) : Type 0 where
+  pub status : r ≡ statusOf answer
+  pub letter-left : letter′ ≡ leftBy (λ l. l) answer letter
 
 pub record PlanLeft (answer : Answer Plan) (r letter letter′ n n′ ac ac′ : ℕ) : Type 0 where
   pub status : r ≡ statusOf answer
@@ -22,33 +41,73 @@ pub record PlanLeft (answer : Answer Plan) (r letter letter′ n n′ ac ac′ :
   pub n-left : n′ ≡ leftBy (λ plan. plan .n) answer n
   pub ac-left : ac′ ≡ leftBy (λ plan. plan .ac) answer ac
 
+-- the plan of an answer that has a letter too
+abbrev pub planAlone : {P : Type 0} → Answer (Lettered P) → Answer P
+planAlone answer = andThen answer (λ x. given (x .plan))
+
+pub record RowLeft (answer : Answer (Lettered StagedPlan)) (r letter letter′ stages stages′ : ℕ) (row row′ : List ℕ) :
+    Type 0 where
+  pub status : r ≡ statusOf answer
+  pub letter-left : letter′ ≡ leftBy (λ x. x .letter) answer letter
+  pub stages-left : stages′ ≡ leftBy (λ x. x .plan .stages) answer stages
+  pub row-left : row′ ≡ rowLeft (planAlone answer) row
+
+abbrev pub StagedPlanLeft : Answer (Lettered StagedPlan) → ℕ → ℕ → ℕ → ℕ → ℕ → List ℕ → List ℕ → Type 0
+StagedPlanLeft answer r letter letter′ stages stages′ row row′ =
+    RowLeft (intoRow (length row) answer) r letter letter′ stages stages′ row row′
+
+pub record SequentialPlanLeft (answer : Answer (Lettered SequentialPlan))
+    (r letter letter′ ha ha′ hr hr′ g g′ nt nt′ at at′ : ℕ) : Type 0 where
+  pub status : r ≡ statusOf answer
+  pub letter-left : letter′ ≡ leftBy (λ x. x .letter) answer letter
+  pub ha-left : ha′ ≡ leftBy (λ x. x .plan .hA) answer ha
+  pub hr-left : hr′ ≡ leftBy (λ x. x .plan .hR) answer hr
+  pub g-left : g′ ≡ leftBy (λ x. x .plan .g) answer g
+  pub nt-left : nt′ ≡ leftBy (λ x. x .plan .nt) answer nt
+  pub at-left : at′ ≡ leftBy (λ x. x .plan .atNt) answer at
+
+pub record VariablesPlanLeft (answer : Answer (Lettered VariablesPlan)) (r letter letter′ n n′ k k′ : ℕ) : Type 0 where
+  pub status : r ≡ statusOf answer
+  pub letter-left : letter′ ≡ leftBy (λ x. x .letter) answer letter
+  pub n-left : n′ ≡ leftBy (λ x. x .plan .n) answer n
+  pub k-left : k′ ≡ leftBy (λ x. x .plan .k) answer k
+
 -- what is given says accepted or not, and the items or readings used
-pub record OutcomeLeft {A : Type 0} (acceptedBy : A → Bool) (usedBy : A → ℕ) (answer : Answer A)
+pub record OutcomeLeft {A : Type 0} (verdictOf : A → Verdict) (answer : Answer A)
     (r accepted accepted′ used used′ : ℕ) : Type 0 where
   pub status : r ≡ statusOf answer
-  pub accepted-left : accepted′ ≡ leftBy (λ a. flag (acceptedBy a)) answer accepted
-  pub used-left : used′ ≡ leftBy usedBy answer used
+  pub accepted-left : accepted′ ≡ leftBy (λ a. flag (verdictOf a .accepted)) answer accepted
+  pub used-left : used′ ≡ leftBy (λ a. verdictOf a .used) answer used
 
 abbrev pub VerdictLeft : {P : Type 0} → Answer (Judged P Verdict) → ℕ → ℕ → ℕ → ℕ → ℕ → Type 0
-VerdictLeft = OutcomeLeft (λ j. j .verdict .accepted) (λ j. j .verdict .used)
+VerdictLeft = OutcomeLeft (λ j. j .verdict)
 
-abbrev pub GaugedLeft : {P : Type 0} → Answer (Judged P Gauged) → ℕ → ℕ → ℕ → ℕ → ℕ → Type 0
-GaugedLeft = OutcomeLeft (λ j. j .verdict .accepted) (λ j. j .verdict .used)
-
--- 0 is an original lot, anything else a resubmitted one
-abbrev pub again : ℕ → Bool
-again resubmitted = not (eqb resubmitted 0)
+-- the same of a verdict alone
+abbrev pub VerdictTold : Answer Verdict → ℕ → ℕ → ℕ → ℕ → ℕ → Type 0
+VerdictTold = OutcomeLeft (λ v. v)
 
 pub record ClosedLeft {P : Type 0} (answer : Answer (Closed P)) (r : ℕ) (bytes bytes′ : List ℕ)
-    (accepted accepted′ used used′ : ℕ) : Type 0 where
-  pub outcome :
-      OutcomeLeft (λ c. c .judged .verdict .accepted) (λ c. c .judged .verdict .used) answer r accepted accepted′ used
-      used′
+    (accepted accepted′ used used′ byte byte′ : ℕ) : Type 0 where
+  pub outcome : OutcomeLeft (λ c. c .judged .verdict) answer r accepted accepted′ used used′
   pub bytes-left : bytes′ ≡ leftBy (λ c. bytesOf (c .recordAfter)) answer bytes
+  pub byte-left : byte′ ≡ leftBy (λ c. byteOf (c .event)) answer byte
+
+-- What is told has room: a place up to 32,768, up to 14,000 items or readings used, and a lent record of seven bytes.
+abbrev pub VerdictFits : Answer Verdict → Type 0
+VerdictFits (refused n p) = p ≤ 32768
+VerdictFits (given v) = v .used ≤ 14000
+
+abbrev pub ClosedFits : {P : Type 0} → Answer (Closed P) → List ℕ → Type 0
+ClosedFits (refused n p) bytes = p ≤ 32768
+ClosedFits (given c) bytes = (c .judged .verdict .used ≤ 14000) × (length bytes ≡ recordBytes)
 
 pub record NextLeft (answer : Answer Record) (r : ℕ) (bytes bytes′ : List ℕ) : Type 0 where
   pub status : r ≡ statusOf answer
   pub bytes-left : bytes′ ≡ leftBy bytesOf answer bytes
+
+pub record ListLeft (history : List ℕ) (r : ℕ) (severities severities′ : List ℕ) : Type 0 where
+  pub status : r ≡ wideStatusOf (listed ours history (length severities))
+  pub severities-left : severities′ ≡ leftIn (listed ours history (length severities)) ours history severities
 
 -- a book that is sound, or 12 with its byte
 abbrev pub bookChecked : List ℕ → Answer (Unit {0})

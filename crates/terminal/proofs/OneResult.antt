@@ -1,0 +1,112 @@
+-- Each promise of the terminal admits one status and one state of the memory that is lent.
+-- Assumes nothing.
+use Prim.Native.Nat.{ℕ}
+use mathlib.Core.Path.{_≡_, sym, _∙_}
+use mathlib.Core.List.{List}
+use lib.Ieee.{Float}
+use Rattle.rules.specs.Refusals.{Answer}
+use Rattle.rules.specs.Verdict.{Verdict}
+use Rattle.rules.specs.Single.{Plan}
+use Rattle.rules.specs.Staged.{StagedPlan}
+use Rattle.rules.specs.Sequential.{SequentialPlan}
+use Rattle.rules.specs.Variables.{VariablesPlan}
+use Rattle.rules.specs.Severity.{Record}
+use Rattle.rules.specs.Entries.{Lettered, Closed}
+use Rattle.rules.specs.Screen.{Shown}
+use Rattle.terminal.specs.Lent.{LetterLeft, PlanLeft, StagedPlanLeft, SequentialPlanLeft, VariablesPlanLeft}
+use Rattle.terminal.specs.Lent.{OutcomeLeft, ClosedLeft, NextLeft, ListLeft, ScreenLeft}
+
+-- a promise that gives what stands at exit outright gives one (and so of hm_check_book)
+pub one : {A : Type 0} {x y v : A} → x ≡ v → y ≡ v → x ≡ y
+one e f = e ∙ sym f
+
+-- of hm_letter
+pub letter-one : {a : Answer ℕ} {l r l₁ s l₂ : ℕ} → LetterLeft a r l l₁ → LetterLeft a s l l₂
+    → (r ≡ s) × (l₁ ≡ l₂)
+letter-one c d = (one (c .status) (d .status), one (c .letter-left) (d .letter-left))
+
+-- of hm_plan
+pub plan-one : {a : Answer Plan} {l n k r l₁ n₁ k₁ s l₂ n₂ k₂ : ℕ} → PlanLeft a r l l₁ n n₁ k k₁
+    → PlanLeft a s l l₂ n n₂ k k₂ → (r ≡ s) × (l₁ ≡ l₂) × (n₁ ≡ n₂) × (k₁ ≡ k₂)
+plan-one c d = (
+  one (c .status) (d .status),
+  one (c .letter-left) (d .letter-left),
+  one (c .n-left) (d .n-left),
+  one (c .ac-left) (d .ac-left),
+)
+
+-- of hm_staged_plan
+pub staged-plan-one : (a : Answer (Lettered StagedPlan)) {l k r l₁ k₁ s l₂ k₂ : ℕ} {row row₁ row₂ : List ℕ}
+    → StagedPlanLeft a r l l₁ k k₁ row row₁ → StagedPlanLeft a s l l₂ k k₂ row row₂
+    → (r ≡ s) × (l₁ ≡ l₂) × (k₁ ≡ k₂) × (row₁ ≡ row₂)
+staged-plan-one a c d = (
+  one (c .status) (d .status),
+  one (c .letter-left) (d .letter-left),
+  one (c .stages-left) (d .stages-left),
+  one (c .row-left) (d .row-left),
+)
+
+-- of hm_sequential_plan
+pub sequential-plan-one : {a : Answer (Lettered SequentialPlan)}
+    {l u v g n t r l₁ u₁ v₁ g₁ n₁ t₁ s l₂ u₂ v₂ g₂ n₂ t₂ : ℕ}
+    → SequentialPlanLeft a r l l₁ u u₁ v v₁ g g₁ n n₁ t t₁ → SequentialPlanLeft a s l l₂ u u₂ v v₂ g g₂ n n₂ t t₂
+    → (r ≡ s) × (l₁ ≡ l₂) × (u₁ ≡ u₂) × (v₁ ≡ v₂) × (g₁ ≡ g₂) × (n₁ ≡ n₂) × (t₁ ≡ t₂)
+sequential-plan-one c d = (
+  one (c .status) (d .status),
+  one (c .letter-left) (d .letter-left),
+  one (c .ha-left) (d .ha-left),
+  one (c .hr-left) (d .hr-left),
+  one (c .g-left) (d .g-left),
+  one (c .nt-left) (d .nt-left),
+  one (c .at-left) (d .at-left),
+)
+
+-- of hm_variables_plan
+pub variables-plan-one : {a : Answer (Lettered VariablesPlan)} {l n k r l₁ n₁ k₁ s l₂ n₂ k₂ : ℕ}
+    → VariablesPlanLeft a r l l₁ n n₁ k k₁ → VariablesPlanLeft a s l l₂ n n₂ k k₂
+    → (r ≡ s) × (l₁ ≡ l₂) × (n₁ ≡ n₂) × (k₁ ≡ k₂)
+variables-plan-one c d = (
+  one (c .status) (d .status),
+  one (c .letter-left) (d .letter-left),
+  one (c .n-left) (d .n-left),
+  one (c .k-left) (d .k-left),
+)
+
+-- of hm_single, hm_staged, hm_sequential and hm_variables_upper and _lower
+pub verdict-one : {A : Type 0} {verdictOf : A → Verdict} {a : Answer A} {b u r b₁ u₁ s b₂ u₂ : ℕ}
+    → OutcomeLeft verdictOf a r b b₁ u u₁ → OutcomeLeft verdictOf a s b b₂ u u₂ → (r ≡ s) × (b₁ ≡ b₂) × (u₁ ≡ u₂)
+verdict-one c d = (
+  one (c .status) (d .status),
+  one (c .accepted-left) (d .accepted-left),
+  one (c .used-left) (d .used-left),
+)
+
+-- of hm_close_single and hm_close_staged
+pub closed-one : {P : Type 0} {a : Answer (Closed P)} {m m₁ m₂ : List ℕ} {b u k r b₁ u₁ k₁ s b₂ u₂ k₂ : ℕ}
+    → ClosedLeft a r m m₁ b b₁ u u₁ k k₁ → ClosedLeft a s m m₂ b b₂ u u₂ k k₂
+    → ((r ≡ s) × (b₁ ≡ b₂) × (u₁ ≡ u₂)) × (m₁ ≡ m₂) × (k₁ ≡ k₂)
+closed-one c d = (
+  verdict-one (c .outcome) (d .outcome),
+  one (c .bytes-left) (d .bytes-left),
+  one (c .byte-left) (d .byte-left),
+)
+
+-- of hm_next
+pub next-one : {a : Answer Record} {r s : ℕ} {m m₁ m₂ : List ℕ} → NextLeft a r m m₁ → NextLeft a s m m₂
+    → (r ≡ s) × (m₁ ≡ m₂)
+next-one c d = (one (c .status) (d .status), one (c .bytes-left) (d .bytes-left))
+
+-- of hm_list
+pub list-one : {h : List ℕ} {r s : ℕ} {m m₁ m₂ : List ℕ} → ListLeft h r m m₁ → ListLeft h s m m₂
+    → (r ≡ s) × (m₁ ≡ m₂)
+list-one c d = (one (c .status) (d .status), one (c .severities-left) (d .severities-left))
+
+-- of hm_screen
+pub screen-one : {a : Answer Shown} {r s b b₁ b₂ : ℕ} {m v m₁ v₁ m₂ v₂ : Float} → ScreenLeft a r m m₁ v v₁ b b₁
+    → ScreenLeft a s m m₂ v v₂ b b₂ → (r ≡ s) × (m₁ ≡ m₂) × (v₁ ≡ v₂) × (b₁ ≡ b₂)
+screen-one c d = (
+  one (c .status) (d .status),
+  one (c .mean-left) (d .mean-left),
+  one (c .variance-left) (d .variance-left),
+  one (c .both-left) (d .both-left),
+)
