@@ -95,8 +95,7 @@ fn log_as(work: Work, supply: Record, line: u64, said: Line, out: &mut [u8; LINE
     }
 }
 
-// Between pieces: the record, the number of the unfinished line, how many bytes of it came (46 for more) and
-// those bytes.
+// Between pieces: the record, the number of the unfinished line, how many bytes of it came and those bytes.
 pub struct State {
     pub supply: Record,
     pub line: u64,

@@ -210,7 +210,8 @@ fn next_turn(turn: Turn, input: &mut [u8], output: &mut [u8]) -> Turn
 }
 
 // A proved loop has to end, and nothing says that an input does: the turns count down from a number that no run uses
-// up. The lent memory is only worked in. In too small an output nothing is read or written.
+// up. The lent memory is only worked in. The last turn is answered, and one that failed where the output is too small
+// to work in: then nothing is read or written.
 pub fn run(input: &mut [u8], output: &mut [u8]) -> Turn
     ensures { λ r. ⌜ Runs (now (input .entry)) (now (output .entry)) (now (input .exit)) (now (output .exit)) r ⌝ }
 {
