@@ -98,6 +98,11 @@ rattle {
 
 /^#define/ { name = $2; sub(/\(.*/, "", name); tell(name); next }
 
+# the header's constants
+FILENAME ~ /^include/ {
+  for (rest = line; match(rest, /HM_[A-Z0-9_]+/); rest = substr(rest, RSTART + RLENGTH)) tell(substr(rest, RSTART, RLENGTH))
+}
+
 # C functions begin in the first column
 line ~ /^[a-z][A-Za-z_0-9 ]*[ *][a-z_0-9]+\(/ {
   if (line ~ /\)/) signature(line, 0); else held = line

@@ -7,7 +7,13 @@ function fault(what) {
 
 function is_path(text) {
   sub(/\/$/, "", text)
-  return (text in path) || (("crates/" text) in path) || (("crates/" text ".antt") in path)
+  return (text in path) || (("crates/" text) in path) || (("crates/" text ".antt") in path) || is_edit(text)
+}
+
+# CRATE/NAME: an edit of that crate
+function is_edit(text) {
+  sub(/\//, "/must-fail/", text)
+  return ("crates/" text ".edit") in path
 }
 
 # a word with an ellipsis stands for any name of its form
