@@ -1,13 +1,9 @@
-/* The two sides that are timed, function for function: the proved archives and plain C. */
+/* The two sides that are timed, function for function: the proved archive and plain C. */
 #ifndef SIDES_H
 #define SIDES_H
 
 #include <stddef.h>
 #include <stdint.h>
-
-/* The severity after each byte of a history, written to out; or the number of the refusal, with out left as it was. */
-uint32_t bench_list(const uint8_t *history, size_t len, uint8_t *out, size_t room);
-uint32_t plain_list(const uint8_t *history, size_t len, uint8_t *out, size_t room);
 
 /* The verdict on a sample, by its plan. */
 typedef uint32_t judge(uint32_t size, uint32_t level, uint32_t column, uint32_t severity, const uint8_t *book,
@@ -23,7 +19,7 @@ struct side {
                           size_t book_len, const uint8_t *readings, size_t readings_len, int32_t limit,
                           uint8_t *accepted, uint16_t *used);
     uint32_t (*check_book)(const uint8_t *book, size_t book_len);
-    uint32_t (*list)(const uint8_t *history, size_t len, uint8_t *out, size_t room);
+    uint64_t (*list)(const uint8_t *history, size_t len, uint8_t *severities, size_t room);
 };
 
 extern const struct side sides[SIDES];

@@ -2,6 +2,7 @@
 #include "work.h"
 
 #include "../include/hipomoake.h"
+#include "../tests/terminal/random.h"
 #include "../tests/terminal/reference.h"
 
 #include <stdbool.h>
@@ -9,13 +10,12 @@
 #include <string.h>
 
 const struct side sides[SIDES] = {
-    {hm_plan, hm_single, hm_staged, hm_sequential, hm_variables_upper, hm_check_book, bench_list},
-    {ref_plan, ref_single, ref_staged, ref_sequential, ref_variables_upper, ref_check_book, plain_list},
+    {hm_plan, hm_single, hm_staged, hm_sequential, hm_variables_upper, hm_check_book, hm_list},
+    {ref_plan, ref_single, ref_staged, ref_sequential, ref_variables_upper, ref_check_book, ref_list},
 };
 
 enum { MOST_ITEMS = 14000, MOST_HISTORY = 1000000, STAGES = 7 };
 enum { BANDS = 15, LEVELS = 7, LETTERS = 16, COLUMNS = 26, ITEM_COLUMNS = 16 };
-enum { LEVEL_I = 4, LEVEL_II, LEVEL_III, LETTER_R = 15 };
 
 /* The step from a lot to the next one is a prime, and reaches them all. */
 enum { LOTS = 2 * BANDS * LEVELS * COLUMNS * 2, SCATTER = 7919 };
@@ -27,14 +27,6 @@ struct lot {
 static struct lot lot, lots[LOTS];
 static size_t calls, book_len, sample_len, history_len;
 static uint8_t book[HM_BOOK_BYTES], sample[2 * MOST_ITEMS], history[MOST_HISTORY], listed[MOST_HISTORY];
-
-static uint32_t below(uint32_t n) {
-    static uint64_t state = 1;
-    state ^= state << 13;
-    state ^= state >> 7;
-    state ^= state << 17;
-    return (uint32_t)((state * 0x2545f4914f6cdd1du >> 32) * n >> 32);
-}
 
 static void put(uint8_t *bytes, size_t *len, unsigned number) {
     bytes[(*len)++] = (uint8_t)number;
@@ -114,8 +106,8 @@ static uint64_t judged(judge *by) {
 
 /* Tightened R, 0.025 takes 3,150 items; normal M, 0.15 takes 315. */
 static void prepare_single(size_t size) {
-    begin(size == 3150 ? (struct lot){500001, LEVEL_III, 2, HM_TIGHTENED}
-                       : (struct lot){10001, LEVEL_II, 6, HM_NORMAL});
+    begin(size == 3150 ? (struct lot){500001, HM_LEVEL_III, HM_AQL_0_025, HM_TIGHTENED}
+                       : (struct lot){10001, HM_LEVEL_II, HM_AQL_0_15, HM_NORMAL});
     no_book();
     for (size_t i = 0; i < size; i++)
         put_item(i == size / 2);
@@ -127,8 +119,8 @@ static uint64_t run_single(const struct side *side) {
 
 /* Seven stages that accept only at the last. */
 static void prepare_staged(size_t size) {
-    unsigned stage = (unsigned)size / STAGES, numbers[4 + 3 * STAGES] = {0, LETTER_R, 6, STAGES};
-    begin((struct lot){500001, LEVEL_III, 6, HM_NORMAL});
+    unsigned stage = (unsigned)size / STAGES, numbers[4 + 3 * STAGES] = {HM_NORMAL, HM_LETTER_R, HM_AQL_0_15, STAGES};
+    begin((struct lot){500001, HM_LEVEL_III, HM_AQL_0_15, HM_NORMAL});
     for (unsigned i = 0; i < STAGES; i++) {
         numbers[4 + i] = stage;
         numbers[4 + STAGES + 2 * i] = i + 1 < STAGES ? HM_MARK : 21;
@@ -145,8 +137,8 @@ static uint64_t run_staged(const struct side *side) {
 
 /* Lines so far apart that only the last item decides. */
 static void prepare_sequential(size_t size) {
-    const unsigned numbers[] = {0, LETTER_R, 6, 65535, 65535, 1000, (unsigned)size, 31};
-    begin((struct lot){500001, LEVEL_III, 6, HM_NORMAL});
+    const unsigned numbers[] = {HM_NORMAL, HM_LETTER_R, HM_AQL_0_15, 65535, 65535, 1000, (unsigned)size, 31};
+    begin((struct lot){500001, HM_LEVEL_III, HM_AQL_0_15, HM_NORMAL});
     one_entry(2, numbers, sizeof numbers / sizeof *numbers);
     for (size_t i = 0; i < size; i++)
         put_item(i % 100 == 99);
@@ -162,8 +154,8 @@ static void put_readings(size_t n) {
 }
 
 static void prepare_variables(size_t size) {
-    const unsigned numbers[] = {0, LETTER_R, 6, (unsigned)size, 1500};
-    begin((struct lot){500001, LEVEL_III, 6, HM_NORMAL});
+    const unsigned numbers[] = {HM_NORMAL, HM_LETTER_R, HM_AQL_0_15, (unsigned)size, 1500};
+    begin((struct lot){500001, HM_LEVEL_III, HM_AQL_0_15, HM_NORMAL});
     one_entry(3, numbers, sizeof numbers / sizeof *numbers);
     put_readings(size);
 }
@@ -214,7 +206,8 @@ static void prepare_book(size_t size) {
     static const unsigned entries[] = {416, 322, 768, 768};
     bool full = size == HM_BOOK_BYTES;
     unsigned part = full ? 1 : 10;
-    begin(full ? (struct lot){500001, LEVEL_III, 15, HM_REDUCED} : (struct lot){280, LEVEL_I, 11, HM_NORMAL});
+    begin(full ? (struct lot){500001, HM_LEVEL_III, HM_AQL_10, HM_REDUCED}
+               : (struct lot){280, HM_LEVEL_I, HM_AQL_1_5, HM_NORMAL});
     for (unsigned i = 0; i < 4; i++)
         put_section(i, entries[i] / part, 100 / part, 4 / part);
     put_readings(2);
@@ -227,7 +220,7 @@ static uint64_t run_check(const struct side *side) {
 /* ---- histories that go through all severities; each byte is drawn, and those that would be refused are left out */
 
 static void draw_history(size_t size, const char *from) {
-    uint8_t record[HM_RECORD_BYTES] = {0};
+    uint8_t record[HM_RECORD_BYTES] = HM_FRESH_RECORD;
     for (history_len = 0; history_len < size;) {
         uint8_t byte = (uint8_t)(from[below((uint32_t)strlen(from))] - '0');
         if (ref_next(record, sizeof record, byte) == 0)

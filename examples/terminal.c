@@ -1,5 +1,6 @@
 /*
- * One lot of each kind, sentenced through the C terminal with a small typed book; then lots closed on a record.
+ * A bench's day through the C terminal, with a small typed book: the plans of a lot, a lot of each kind sentenced, then
+ * lots closed on the record of their supply, with a history that is kept and listed.
  * Link with libterminal.a. What it prints stands in terminal.out.
  */
 #include "../include/hipomoake.h"
@@ -7,8 +8,8 @@
 #include <stdio.h>
 #include <string.h>
 
-/* The lot: 1,000 items, level II, AQL 1.0. Table 1 gives letter J, which is 8. */
-enum { SIZE = 1000, LEVEL = 5, COLUMN = 10 };
+/* The lot: 1,000 items, level II, AQL 1.0. Table 1 gives letter J. */
+enum { SIZE = 1000, LEVEL = HM_LEVEL_II, COLUMN = HM_AQL_1_0 };
 
 /* A number of the book: 16 bits, low byte first. */
 #define NUMBER(x) (uint8_t)((x)&0xff), (uint8_t)((x) >> 8)
@@ -17,60 +18,102 @@ enum { SIZE = 1000, LEVEL = 5, COLUMN = 10 };
 static const uint8_t book[] = {
     /* reduced singles: letter, column, n, Ac */
     NUMBER(1),
-    NUMBER(8), NUMBER(10), NUMBER(32), NUMBER(1),
+    NUMBER(HM_LETTER_J), NUMBER(HM_AQL_1_0), NUMBER(32), NUMBER(1),
     /* staged: severity, letter, column, stages, sizes; then Ac and Re of each stage */
     NUMBER(1),
-    NUMBER(HM_NORMAL), NUMBER(8), NUMBER(10), NUMBER(2), NUMBER(50), NUMBER(50),
+    NUMBER(HM_NORMAL), NUMBER(HM_LETTER_J), NUMBER(HM_AQL_1_0), NUMBER(2), NUMBER(50), NUMBER(50),
     NUMBER(0), NUMBER(3), NUMBER(3), NUMBER(4),
     /* sequential: severity, letter, column, hA, hR, g, nt, At */
     NUMBER(1),
-    NUMBER(HM_NORMAL), NUMBER(8), NUMBER(10), NUMBER(1750), NUMBER(2247), NUMBER(9570), NUMBER(98), NUMBER(9),
+    NUMBER(HM_NORMAL), NUMBER(HM_LETTER_J), NUMBER(HM_AQL_1_0),
+    NUMBER(1750), NUMBER(2247), NUMBER(9570), NUMBER(98), NUMBER(9),
     /* variables: severity, letter, column, n, K */
     NUMBER(1),
-    NUMBER(HM_NORMAL), NUMBER(8), NUMBER(10), NUMBER(3), NUMBER(3500),
+    NUMBER(HM_NORMAL), NUMBER(HM_LETTER_J), NUMBER(HM_AQL_1_0), NUMBER(3), NUMBER(3500),
 };
 /* clang-format on */
 
+static const char severity_letters[] = "NTRX";
 static uint8_t sample[2 * 3150];
 
-/* A sample of n items, of which the item counted from 1 does not conform; 0 for none. Gives its bytes. */
-static size_t fill_sample(size_t n, size_t bad) {
+/* A sample of n items, the first of which do not conform. Gives its bytes. */
+static size_t draw_sample(size_t n, size_t bad) {
     memset(sample, 0, 2 * n);
-    if (bad > 0)
-        sample[2 * (bad - 1)] = 1;
+    for (size_t i = 0; i < bad; i++)
+        sample[2 * i] = 1;
     return 2 * n;
 }
 
-static void print_verdict(const char *kind, uint32_t status, uint8_t accepted, uint16_t used) {
-    if (status == HM_ANSWERED)
-        printf("%-16s %s after %u items\n", kind, accepted ? "accepted" : "not accepted", (unsigned)used);
-    else
-        printf("%-16s refused %u at %u\n", kind, (unsigned)HM_NUMBER(status), (unsigned)HM_PLACE(status));
+/* True for an answer; a refusal is printed. */
+static int is_answered(const char *what, uint32_t status) {
+    if (status != HM_ANSWERED)
+        printf("%-16s refused %u at %u\n", what, (unsigned)HM_NUMBER(status), (unsigned)HM_PLACE(status));
+    return status == HM_ANSWERED;
 }
 
-static void print_plan(uint32_t severity) {
-    static const char letters[] = "ABCDEFGHJKLMNPQRS";
-    uint8_t letter = 0;
-    uint16_t n = 0, ac = 0;
-    uint32_t status = hm_plan(SIZE, LEVEL, COLUMN, severity, book, sizeof book, &letter, &n, &ac);
-    if (status == HM_ANSWERED)
-        printf("plan at %u        letter %c, n %u, Ac %u\n", (unsigned)severity, letters[letter], (unsigned)n,
-               (unsigned)ac);
+/* ---- plans: what to draw */
+
+static void print_letter(void) {
+    uint8_t letter;
+    if (is_answered("letter", hm_letter(SIZE, LEVEL, &letter)))
+        printf("%-16s %c\n", "letter", HM_LETTERS[letter]);
+}
+
+static void print_single_plan(const char *what, uint32_t severity) {
+    uint8_t letter;
+    uint16_t n, ac;
+    if (is_answered(what, hm_plan(SIZE, LEVEL, COLUMN, severity, book, sizeof book, &letter, &n, &ac)))
+        printf("%-16s letter %c, n %u, Ac %u\n", what, HM_LETTERS[letter], n, ac);
+}
+
+static void print_staged_plan(void) {
+    uint8_t letter, stages, row[HM_STAGED_ROW_BYTES];
+    uint32_t status =
+        hm_staged_plan(SIZE, LEVEL, COLUMN, HM_NORMAL, book, sizeof book, &letter, &stages, row, sizeof row);
+    if (!is_answered("staged plan", status))
+        return;
+    printf("%-16s", "staged plan");
+    for (unsigned i = 0; i < stages; i++)
+        printf("%s %u items, Ac %u, Re %u", i > 0 ? ";" : "", HM_STAGE_SIZE(row, i), HM_STAGE_AC(row, i),
+               HM_STAGE_RE(row, i));
+    printf("\n");
+}
+
+static void print_other_plans(void) {
+    uint8_t letter;
+    uint16_t ha, hr, g, nt, at, n, k;
+    uint32_t status =
+        hm_sequential_plan(SIZE, LEVEL, COLUMN, HM_NORMAL, book, sizeof book, &letter, &ha, &hr, &g, &nt, &at);
+    if (is_answered("sequential plan", status))
+        printf("%-16s hA %u, hR %u, g %u, nt %u, At %u\n", "sequential plan", ha, hr, g, nt, at);
+    status = hm_variables_plan(SIZE, LEVEL, COLUMN, HM_NORMAL, book, sizeof book, &letter, &n, &k);
+    if (is_answered("variables plan", status))
+        printf("%-16s n %u, k %u\n", "variables plan", n, k);
+}
+
+/* ---- verdicts */
+
+static void print_verdict(const char *what, uint32_t status, uint8_t accepted, uint16_t used) {
+    if (is_answered(what, status))
+        printf("%-16s %s after %u items\n", what, accepted ? "accepted" : "not accepted", used);
 }
 
 static void judge_items(void) {
     uint8_t accepted = 0;
     uint16_t used = 0;
-    size_t len = fill_sample(80, 18);
+    size_t len = draw_sample(80, 1);
     uint32_t status = hm_single(SIZE, LEVEL, COLUMN, HM_NORMAL, book, sizeof book, sample, len, &accepted, &used);
     print_verdict("single", status, accepted, used);
-    len = fill_sample(50, 0);
+    len = draw_sample(100, 2);
     status = hm_staged(SIZE, LEVEL, COLUMN, HM_NORMAL, book, sizeof book, sample, len, &accepted, &used);
     print_verdict("staged", status, accepted, used);
-    len = fill_sample(19, 0);
+    len = draw_sample(50, 3);
+    status = hm_staged(SIZE, LEVEL, COLUMN, HM_NORMAL, book, sizeof book, sample, len, &accepted, &used);
+    print_verdict("staged, 3 bad", status, accepted, used);
+    len = draw_sample(19, 0);
     status = hm_sequential(SIZE, LEVEL, COLUMN, HM_NORMAL, book, sizeof book, sample, len, &accepted, &used);
     print_verdict("sequential", status, accepted, used);
-    len = fill_sample(20, 0);
+    len = draw_sample(20, 0);
     status = hm_sequential(SIZE, LEVEL, COLUMN, HM_NORMAL, book, sizeof book, sample, len, &accepted, &used);
     print_verdict("one item more", status, accepted, used);
 }
@@ -83,34 +126,100 @@ static void judge_readings(void) {
     uint32_t status = hm_variables_upper(SIZE, LEVEL, COLUMN, HM_NORMAL, book, sizeof book, readings, sizeof readings,
                                          19, &accepted, &used);
     print_verdict("variables, upper", status, accepted, used);
-    if (hm_screen(readings, sizeof readings, &mean, &variance, &both) == HM_ANSWERED && both)
-        printf("screen           mean %.3f, variance %.3f\n", mean, variance);
+    status = hm_variables_lower(SIZE, LEVEL, COLUMN, HM_NORMAL, book, sizeof book, readings, sizeof readings, 6,
+                                &accepted, &used);
+    print_verdict("variables, lower", status, accepted, used);
+    if (is_answered("screen", hm_screen(readings, sizeof readings, &mean, &variance, &both)) && both)
+        printf("%-16s mean %.3f, variance %.3f\n", "screen", mean, variance);
 }
 
-/* Ten clean original lots of a steady supply with permission: the score reaches 30. */
-static void close_lots(void) {
-    uint8_t supply[HM_RECORD_BYTES] = {0}, accepted = 0;
+/* ---- a supply: its record, and its history from the bytes that are told */
+
+enum { MOST_HISTORY = 64 };
+
+static uint8_t supply[HM_RECORD_BYTES] = HM_FRESH_RECORD, history[MOST_HISTORY];
+static size_t history_len;
+
+static void order(const char *what, uint8_t event) {
+    if (is_answered(what, hm_next(supply, sizeof supply, event)))
+        history[history_len++] = event;
+}
+
+static void print_closed(const char *what, uint32_t status, uint8_t accepted, uint16_t used) {
+    if (is_answered(what, status))
+        printf("%-16s %s after %u items: byte %u, severity %c, score %u\n", what,
+               accepted ? "accepted" : "not accepted", used, history[history_len++],
+               severity_letters[supply[HM_RECORD_SEVERITY]], supply[HM_RECORD_SCORE]);
+}
+
+/* The plan at the record's severity says how many items to draw. */
+static void close_single(uint32_t resubmitted, size_t bad) {
+    uint8_t letter, accepted = 0;
+    uint16_t n, ac, used = 0;
+    uint32_t status = hm_plan(SIZE, LEVEL, COLUMN, supply[HM_RECORD_SEVERITY], book, sizeof book, &letter, &n, &ac);
+    if (!is_answered("plan", status))
+        return;
+    size_t len = draw_sample(n, bad);
+    status = hm_close_single(supply, sizeof supply, resubmitted, SIZE, LEVEL, COLUMN, book, sizeof book, sample, len,
+                             &accepted, &used, &history[history_len]);
+    print_closed(resubmitted ? "resubmitted" : "closed", status, accepted, used);
+}
+
+static void close_staged(size_t n, size_t bad) {
+    uint8_t accepted = 0;
     uint16_t used = 0;
-    size_t len = fill_sample(80, 0);
-    hm_next(supply, sizeof supply, HM_STEADY);
-    hm_next(supply, sizeof supply, HM_PERMISSION);
-    for (unsigned lot = 1; lot <= 10; lot++) {
-        uint32_t status = hm_close_single(supply, sizeof supply, 0, SIZE, LEVEL, COLUMN, book, sizeof book, sample, len,
-                                          &accepted, &used);
-        if (status != HM_ANSWERED || lot == 1 || lot >= 9) {
-            print_verdict("closed", status, accepted, used);
-            printf("                 lot %u: severity %u, score %u\n", lot, supply[0], supply[1]);
-        }
+    size_t len = draw_sample(n, bad);
+    uint32_t status = hm_close_staged(supply, sizeof supply, HM_ORIGINAL, SIZE, LEVEL, COLUMN, book, sizeof book,
+                                      sample, len, &accepted, &used, &history[history_len]);
+    print_closed("closed, staged", status, accepted, used);
+}
+
+/* Clean lots of a steady supply with permission lead to reduced, and a lot not accepted back to normal. */
+static void close_lots(void) {
+    order("steady", HM_STEADY);
+    order("permission", HM_PERMISSION);
+    close_single(HM_ORIGINAL, 1);
+    close_staged(50, 0);
+    close_single(HM_ORIGINAL, 3);
+    close_single(HM_RESUBMITTED, 0);
+    close_single(HM_ORIGINAL, 2);
+    for (unsigned lot = 0; lot < 10; lot++)
+        close_single(HM_ORIGINAL, 0);
+    close_single(HM_ORIGINAL, 1);
+    close_single(HM_ORIGINAL, 2);
+}
+
+static void list_history(void) {
+    uint8_t severities[MOST_HISTORY];
+    uint64_t status = hm_list(history, history_len, severities, sizeof severities);
+    if (status != HM_ANSWERED) {
+        printf("%-16s refused %u at %llu\n", "list", (unsigned)HM_LIST_NUMBER(status),
+               (unsigned long long)HM_LIST_PLACE(status));
+        return;
     }
+    printf("%-16s", "history");
+    for (size_t i = 0; i < history_len; i++)
+        printf(" %u", history[i]);
+    printf("\n%-16s", "severities");
+    for (size_t i = 0; i < history_len; i++)
+        printf(" %c", severity_letters[severities[i]]);
+    printf("\n");
 }
 
 int main(void) {
-    uint32_t status = hm_check_book(book, sizeof book);
-    printf("book             %s, %u bytes\n", status == HM_ANSWERED ? "sound" : "broken", (unsigned)sizeof book);
-    print_plan(HM_NORMAL);
-    print_plan(HM_REDUCED);
+    if (is_answered("book", hm_check_book(book, sizeof book)))
+        printf("%-16s sound, %zu bytes\n", "book", sizeof book);
+    print_letter();
+    print_single_plan("plan, normal", HM_NORMAL);
+    print_single_plan("plan, tightened", HM_TIGHTENED);
+    print_single_plan("plan, reduced", HM_REDUCED);
+    print_staged_plan();
+    print_other_plans();
     judge_items();
     judge_readings();
     close_lots();
+    list_history();
+    history[history_len++] = HM_CORRECTIVE; /* a corrective order, though inspection is not stopped */
+    list_history();
     return 0;
 }

@@ -1,33 +1,36 @@
 /*
- * Hipomoake for C: acceptance sampling by attributes (single, staged, sequential) and by variables (s method),
- * with the severity record of one supply. Link libterminal.a.
+ * Hipomoake for C: acceptance sampling by attributes (single, staged, sequential) and by variables (s method), with the
+ * severity record of a supply and the severities of its history.
  *
- * STATUS. Every function returns a uint32_t: 0 when it answered; else the number of its refusal in the low byte
- * (HM_NUMBER) and the refusal's place in the 24 bits above (HM_PLACE). The place is the byte of a broken book
- * (HM_BROKEN_BOOK); beside any other number it is 0. On a refusal nothing is written: every out-parameter and the
- * record hold what they held before the call. Of several reasons to refuse, HM_BROKEN_BOOK is given first, then the
- * lowest number; staged and sequential samples are walked item by item, and give whichever of HM_BAD_LENGTH and
- * HM_BAD_ITEM the walk meets first. No number passed by value is out of bounds: garbage is refused, never undefined.
+ * THE ARCHIVE. `rt staticlib terminal` writes libterminal.a, for Linux on x86-64. On an Arm machine, link with a cross
+ * compiler (x86_64-linux-gnu-gcc -static) and run the program under the kit's emulator, qemu-x86_64.
+ *
+ * STATUS. Every function returns a uint32_t: 0 (HM_ANSWERED) when it answered; else the number of its refusal in the
+ * low byte (HM_NUMBER) and the refusal's place in the 24 bits above (HM_PLACE). hm_list alone returns a uint64_t, with
+ * 56 bits for the place (HM_LIST_NUMBER, HM_LIST_PLACE). A place is the byte of a broken book, or of a history; where
+ * there is neither it is 0. On a refusal nothing is written: all memory holds what it held before the call. Of several
+ * reasons to refuse, HM_BROKEN_BOOK is given first, then the lowest number, but for two walks: a staged or sequential
+ * sample gives whichever of HM_BAD_LENGTH and HM_BAD_ITEM is met first, and a history its first bad byte before
+ * HM_SHORT_BUFFER. No number passed by value is out of bounds: garbage is refused, never undefined.
  *
  * MEMORY. All memory is the caller's. A function keeps no pointer after it returns, allocates nothing, and has no
  * state of its own: calls on different memory may run at the same time. Pointers are never null (a length of 0 still
  * takes a valid pointer), out-parameters are aligned as their types ask, and what is written overlaps nothing else
  * that is passed. Byte arrays need no alignment. Lengths count bytes.
  *
- * NUMBERS IN BYTES. A number in a book, a sample or a row of readings is 16 bits, low byte first. A reading is in
- * two's complement.
+ * NUMBERS IN BYTES. A number in a book, a sample, a row of readings or a row of stages is 16 bits, low byte first. A
+ * reading is in two's complement.
  *
  * THE LOT, in every function that takes one:
- *   size      items in the lot, 2 or more.
- *   level     inspection level: 0 to 6 for S-1, S-2, S-3, S-4, I, II, III.
- *   column    AQL: 0 to 25 for 0.010 0.015 0.025 0.040 0.065 0.10 0.15 0.25 0.40 0.65 1.0 1.5 2.5 4.0 6.5 10 15 25 40
- *             65 100 150 250 400 650 1000. Columns 0 to 15 count nonconforming items; above, nonconformities.
- *   severity  HM_NORMAL, HM_TIGHTENED, HM_REDUCED or HM_STOPPED. A function that closes a lot takes it from the record.
- *   book      the plan book, checked whole at every call and every severity. A bench without one lends HM_NO_BOOK.
+ *   size      items in the lot, 2 or more
+ *   level     inspection level, HM_LEVEL_S1 to HM_LEVEL_III
+ *   column    AQL, HM_AQL_0_010 to HM_AQL_1000; to HM_AQL_10 nonconforming items are counted, above nonconformities
+ *   severity  HM_NORMAL, HM_TIGHTENED, HM_REDUCED or HM_STOPPED; a function that closes a lot takes it from the record
+ *   book      the plan book, checked whole at every call and every severity; a bench without one lends HM_NO_BOOK
  *
- * THE SAMPLE, in functions on attributes: the items in the order inspected, one number each; for columns 0 to 15 each
- * is 0 (conforms) or 1 (does not), above 15 the item's nonconformities, 0 to 65,535. A single sample has exactly the
- * plan's n items. A staged sample ends with the stage that decides, a sequential one with the item that decides.
+ * THE SAMPLE, in functions on attributes: the items in the order inspected, one number each; to HM_AQL_10 each is 0
+ * (conforms) or 1 (does not), above it the item's nonconformities, 0 to 65,535. A single sample has exactly the plan's
+ * n items. A staged sample ends with the stage that decides, a sequential one with the item that decides.
  *
  * THE BOOK: at most HM_BOOK_BYTES bytes, four sections in this order, each after its count of entries; nothing follows.
  * An entry's numbers up to the bar are its key; keys rise strictly within a section, compared from the first number.
@@ -40,29 +43,35 @@
  *                       hA and hR in thousandths, 1 or more; g in hundred-thousandths, 1 to 60,000; nt 1 to 3,150;
  *                       floor(g nt - hA) <= At < ceiling(g nt + hR)
  *   4  variables        severity letter column | n K                        n 2 to 50, K (k in thousandths) 1 to 4,000
- * Severity is 0 to 2; letter, 0 to 15, is the letter of Table 1 for the lot's size and level (A B C D E F G H J K L M N
- * P Q R); column is 0 to 25 in sections 1 and 2, 0 to 15 in 3 and 4. The place of a broken book is the lowest that
- * applies: a number out of range, at its start; two numbers that break a rule, at the later; a key that does not rise,
- * at the entry's first number; bytes after section 4, at the first; a number missing or half there, at the length.
+ * Severity is HM_NORMAL to HM_REDUCED; letter, HM_LETTER_A to HM_LETTER_R, is that of Table 1 for the lot's size and
+ * level (hm_letter); column is 0 to 25 in sections 1 and 2, 0 to 15 in 3 and 4. The place of a broken book is the
+ * lowest that applies: a number out of range, at its start; two numbers that break a rule, at the later; a key that
+ * does not rise, at the entry's first number; bytes after section 4, at the first; a number missing or half there, at
+ * the length.
  *
- * THE RECORD: HM_RECORD_BYTES bytes, one record for each supply; all zero is a fresh one. In order: severity; score (0
- * to 30); run (accepted in a row, 0 to 4) and count (not accepted, 0 to 4) of a tightened stay; window (the last five
- * lots of a normal stay as bits, the newest in bit 0, 1 for one not accepted, at most one such); steady; permission
- * (each 0 or 1). Score and window are 0 outside normal, run and count outside tightened. Keep it as it is between
- * calls; only the functions below change it.
+ * THE RECORD: HM_RECORD_BYTES bytes, one record for each supply, which starts as HM_FRESH_RECORD. In order: severity;
+ * score (0 to 30); run (accepted in a row, 0 to 4) and count (not accepted, 0 to 4) of a tightened stay; window (the
+ * last five lots of a normal stay as bits, the newest in bit 0, 1 for one not accepted, at most one such); steady;
+ * permission (each 0 or 1). Score and window are 0 outside normal, run and count outside tightened. Keep it as it is
+ * between calls; only the functions below change it.
+ *
+ * THE HISTORY of a supply: one byte for each lot and each order, HM_ACCEPTED_ADD_3 to HM_CORRECTIVE, from a fresh
+ * record on. The functions that close a lot tell its byte; the byte of hm_next is its event. A bench that keeps the
+ * bytes of all that was answered can have its severities again from hm_list.
  *
  * EXAMPLE. Close an original lot of 1,000 at level II, AQL 1.0, on the record of its supply:
  *
  *     static const uint8_t no_book[] = HM_NO_BOOK;
- *     uint8_t supply[HM_RECORD_BYTES] = {0}, sample[2 * 80] = {0}, accepted;
+ *     uint8_t supply[HM_RECORD_BYTES] = HM_FRESH_RECORD, sample[2 * 80] = {0}, accepted, byte;
  *     uint16_t used;
  *     sample[2 * 17] = 1;                                          // the 18th item does not conform
- *     uint32_t status = hm_close_single(supply, sizeof supply, 0, 1000, 5, 10, no_book, sizeof no_book,
- *                                       sample, sizeof sample, &accepted, &used);
+ *     uint32_t status = hm_close_single(supply, sizeof supply, HM_ORIGINAL, 1000, HM_LEVEL_II, HM_AQL_1_0, no_book,
+ *                                       sizeof no_book, sample, sizeof sample, &accepted, &used, &byte);
  *     if (status != HM_ANSWERED)
  *         printf("refused %u at %u\n", (unsigned)HM_NUMBER(status), (unsigned)HM_PLACE(status));
  *     else
- *         printf("%s, %u items, next severity %u\n", accepted ? "accepted" : "not accepted", used, supply[0]);
+ *         printf("%s, %u items, next severity %u\n", accepted ? "accepted" : "not accepted", used,
+ *                supply[HM_RECORD_SEVERITY]);
  */
 #ifndef HIPOMOAKE_H
 #define HIPOMOAKE_H
@@ -70,58 +79,104 @@
 #include <stddef.h>
 #include <stdint.h>
 
-/* The parts of a status. */
+/* The parts of a status, and of the status of hm_list. */
 #define HM_NUMBER(status) ((uint32_t)(status)&0xffu)
 #define HM_PLACE(status) ((uint32_t)(status) >> 8)
+#define HM_LIST_NUMBER(status) ((uint32_t)((uint64_t)(status)&0xffu))
+#define HM_LIST_PLACE(status) ((uint64_t)(status) >> 8)
 
-/* The status of an answer, and the refusal numbers. */
-#define HM_ANSWERED 0u
-#define HM_UNKNOWN 1u      /* a severity over 3, an event over 9, or a record out of range or of another length */
-#define HM_BAD_SIZE 2u     /* a lot size under 2 */
-#define HM_BAD_LEVEL 3u    /* a level over 6 */
-#define HM_BAD_COLUMN 4u   /* a column over 25 */
-#define HM_IS_STOPPED 5u   /* any lot, resubmitted ones too, while inspection is stopped */
-#define HM_NO_PLAN 6u      /* no book entry under the lot's key, or a staged total, nt or variables n above the size */
-#define HM_BAD_LENGTH 7u   /* a sample of the wrong length, half an item included; for hm_screen not 1 to 50 readings */
-#define HM_BAD_ITEM 8u     /* an item over 1 where items are 0 or 1 */
-#define HM_BAD_READING 9u  /* a reading or a limit not in -1,000 to 1,000 */
-#define HM_NOT_STOPPED 10u /* a corrective order when inspection is not stopped */
-#define HM_BROKEN_BOOK 12u /* the book breaks its layout, at the byte that is the place; over its length, at 32,768 */
+/* clang-format off */
 
-/* Severities: what a record's first byte holds, and what the functions that only judge take. */
-#define HM_NORMAL 0u
-#define HM_TIGHTENED 1u
-#define HM_REDUCED 2u
-#define HM_STOPPED 3u
+/* The number of an answer, and the refusal numbers. */
+enum {
+    HM_ANSWERED     = 0,
+    HM_UNKNOWN      = 1,  /* a severity over 3, an event or history byte over 9, a record out of range or length */
+    HM_BAD_SIZE     = 2,  /* a lot size under 2 */
+    HM_BAD_LEVEL    = 3,  /* a level over HM_LEVEL_III */
+    HM_BAD_COLUMN   = 4,  /* a column over HM_AQL_1000 */
+    HM_IS_STOPPED   = 5,  /* any lot, resubmitted ones too, while inspection is stopped */
+    HM_NO_PLAN      = 6,  /* no book entry under the lot's key, or a staged total, nt or variables n above the size */
+    HM_BAD_LENGTH   = 7,  /* a sample of the wrong length, half an item included; for hm_screen not 1 to 50 readings */
+    HM_BAD_ITEM     = 8,  /* an item over 1 where items are 0 or 1 */
+    HM_BAD_READING  = 9,  /* a reading or a limit not in -1,000 to 1,000 */
+    HM_NOT_STOPPED  = 10, /* a corrective order when inspection is not stopped */
+    HM_SHORT_BUFFER = 11, /* fewer severities lent than the history has bytes; a row under HM_STAGED_ROW_BYTES */
+    HM_BROKEN_BOOK  = 12  /* the book breaks its layout, at the byte that is the place; over its length, at 32,768 */
+};
 
-/* Events of hm_next: the bytes of a history. */
-#define HM_ACCEPTED_ADD_3 0u   /* an original lot accepted, its score adding 3 */
-#define HM_ACCEPTED_ADD_2 1u   /* an original lot accepted, its score adding 2 */
-#define HM_ACCEPTED_SCORE_0 2u /* an original lot accepted, its score going to 0 */
-#define HM_NOT_ACCEPTED 3u     /* an original lot not accepted */
-#define HM_RESUBMITTED 4u      /* a resubmitted lot, whatever its verdict: it changes nothing */
-#define HM_STEADY 5u           /* order: production is steady */
-#define HM_NOT_STEADY 6u       /* order: it is not, or no longer */
-#define HM_PERMISSION 7u       /* order: reduced inspection is permitted */
-#define HM_WITHDRAWN 8u        /* order: it is not, or no longer */
-#define HM_CORRECTIVE 9u       /* order: corrective action was taken; only while stopped */
+/* Inspection levels. */
+enum { HM_LEVEL_S1, HM_LEVEL_S2, HM_LEVEL_S3, HM_LEVEL_S4, HM_LEVEL_I, HM_LEVEL_II, HM_LEVEL_III };
 
-/* Bytes of a record, bytes of the longest book, and the Ac that means no acceptance at its stage. */
+/* AQL columns, 0 to 25: HM_AQL_0_65 is AQL 0.65, HM_AQL_1_0 is AQL 1.0, HM_AQL_10 is AQL 10. */
+enum {
+    HM_AQL_0_010, HM_AQL_0_015, HM_AQL_0_025, HM_AQL_0_040, HM_AQL_0_065, HM_AQL_0_10, HM_AQL_0_15, HM_AQL_0_25,
+    HM_AQL_0_40, HM_AQL_0_65, HM_AQL_1_0, HM_AQL_1_5, HM_AQL_2_5, HM_AQL_4_0, HM_AQL_6_5, HM_AQL_10,
+    HM_AQL_15, HM_AQL_25, HM_AQL_40, HM_AQL_65, HM_AQL_100, HM_AQL_150, HM_AQL_250, HM_AQL_400, HM_AQL_650, HM_AQL_1000
+};
+
+/* Severities: what a record's first byte holds, what hm_list writes, and what the functions that only judge take. */
+enum { HM_NORMAL, HM_TIGHTENED, HM_REDUCED, HM_STOPPED };
+
+/* Code letters, 0 to 16; I and O are no letters. HM_LETTERS[letter] is the letter itself. */
+enum {
+    HM_LETTER_A, HM_LETTER_B, HM_LETTER_C, HM_LETTER_D, HM_LETTER_E, HM_LETTER_F, HM_LETTER_G, HM_LETTER_H, HM_LETTER_J,
+    HM_LETTER_K, HM_LETTER_L, HM_LETTER_M, HM_LETTER_N, HM_LETTER_P, HM_LETTER_Q, HM_LETTER_R, HM_LETTER_S
+};
+#define HM_LETTERS "ABCDEFGHJKLMNPQRS"
+
+/* The bytes of a history: what hm_next takes as an event, and what a closed lot stands for. */
+enum {
+    HM_ACCEPTED_ADD_3   = 0, /* an original lot accepted, its score adding 3 */
+    HM_ACCEPTED_ADD_2   = 1, /* an original lot accepted, its score adding 2 */
+    HM_ACCEPTED_SCORE_0 = 2, /* an original lot accepted, its score going to 0; outside normal, any accepted one */
+    HM_NOT_ACCEPTED     = 3, /* an original lot not accepted */
+    HM_RESUBMITTED      = 4, /* a resubmitted lot, whatever its verdict: it changes nothing */
+    HM_STEADY           = 5, /* order: production is steady */
+    HM_NOT_STEADY       = 6, /* order: it is not, or no longer */
+    HM_PERMISSION       = 7, /* order: reduced inspection is permitted */
+    HM_WITHDRAWN        = 8, /* order: it is not, or no longer */
+    HM_CORRECTIVE       = 9  /* order: corrective action was taken; only while stopped */
+};
+
+/* What the functions that close a lot take as resubmitted: this, or HM_RESUBMITTED. */
+enum { HM_ORIGINAL = 0 };
+
+/* A record's length, the places in it that a bench shows, and the record of a new supply, for its initializer. */
 #define HM_RECORD_BYTES 7
-#define HM_BOOK_BYTES 32768
-#define HM_MARK 65535u
+#define HM_RECORD_SEVERITY 0
+#define HM_RECORD_SCORE 1
+#define HM_FRESH_RECORD { 0, 0, 0, 0, 0, 0, 0 }
 
-/* Initializer of a book with no entries: uint8_t no_book[] = HM_NO_BOOK; */
-#define HM_NO_BOOK                                                                                                     \
-    { 0, 0, 0, 0, 0, 0, 0, 0 }
+/* The longest book, the Ac that means no acceptance at its stage, and a book with no entries, for its initializer. */
+#define HM_BOOK_BYTES 32768
+#define HM_MARK 65535
+#define HM_NO_BOOK { 0, 0, 0, 0, 0, 0, 0, 0 }
+
+/* A number in bytes, counted from 0; and those of a row of hm_staged_plan: seven sizes, seven Ac, seven Re. */
+#define HM_NUMBER_AT(bytes, at) ((uint16_t)((bytes)[2 * (at)] | (bytes)[2 * (at) + 1] << 8))
+#define HM_STAGED_ROW_BYTES 42
+#define HM_STAGE_SIZE(row, stage) HM_NUMBER_AT(row, stage)
+#define HM_STAGE_AC(row, stage) HM_NUMBER_AT(row, 7 + (stage))
+#define HM_STAGE_RE(row, stage) HM_NUMBER_AT(row, 14 + (stage))
+
+/* clang-format on */
 
 #ifdef __cplusplus
 extern "C" {
 #endif
 
+/* ---- plans: what to draw */
+
+/*
+ * The letter of Table 1 for a lot, under which a book has its plans.
+ *   letter  HM_LETTER_A to HM_LETTER_R
+ * Refuses 2 3.
+ */
+uint32_t hm_letter(uint32_t size, uint32_t level, uint8_t *letter);
+
 /*
  * The single sampling plan for a lot. Under reduced it comes from the book.
- *   letter  the code, 0 to 16 (A B C D E F G H J K L M N P Q R S), of the letter that gives the size
+ *   letter  the letter that gives the size, HM_LETTER_A to HM_LETTER_S; under reduced that of Table 1
  *   n       items to inspect: the table's, or the whole lot where that is not more
  *   ac      accept when the sample's total is at most this
  * Refuses 1 2 3 4 5 6 12.
@@ -130,7 +185,42 @@ uint32_t hm_plan(uint32_t size, uint32_t level, uint32_t column, uint32_t severi
                  size_t book_len, uint8_t *letter, uint16_t *n, uint16_t *ac);
 
 /*
- * Judge a sample by the lot's single plan, its staged plan, its sequential plan. No record is touched.
+ * The staged plan for a lot, from the book.
+ *   letter  that of Table 1
+ *   stages  2 to 7
+ *   row     sizes, Ac and Re of the stages (HM_STAGE_SIZE, HM_STAGE_AC, HM_STAGE_RE, of a stage counted from 0), and 0
+ *           in the places past the last; only the first HM_STAGED_ROW_BYTES bytes are written
+ * Refuses 1 2 3 4 5 6 11 12.
+ */
+uint32_t hm_staged_plan(uint32_t size, uint32_t level, uint32_t column, uint32_t severity, const uint8_t *book,
+                        size_t book_len, uint8_t *letter, uint8_t *stages, uint8_t *row, size_t row_len);
+
+/*
+ * The sequential plan for a lot, from the book: after item n with total D, accept when D <= g n - hA, reject when
+ * D >= g n + hR; at item nt accept when D <= At, else reject.
+ *   letter  that of Table 1
+ *   ha, hr  in thousandths
+ *   g       in hundred-thousandths
+ * Refuses 1 2 3 4 5 6 12.
+ */
+uint32_t hm_sequential_plan(uint32_t size, uint32_t level, uint32_t column, uint32_t severity, const uint8_t *book,
+                            size_t book_len, uint8_t *letter, uint16_t *ha, uint16_t *hr, uint16_t *g, uint16_t *nt,
+                            uint16_t *at);
+
+/*
+ * The variables plan for a lot, from the book.
+ *   letter  that of Table 1
+ *   n       readings to take
+ *   k       in thousandths
+ * Refuses 1 2 3 4 5 6 12.
+ */
+uint32_t hm_variables_plan(uint32_t size, uint32_t level, uint32_t column, uint32_t severity, const uint8_t *book,
+                           size_t book_len, uint8_t *letter, uint16_t *n, uint16_t *k);
+
+/* ---- verdicts that touch no record */
+
+/*
+ * Judge a sample by the lot's single plan, its staged plan, its sequential plan.
  *   accepted  1 or 0
  *   used      items used: all of the sample
  * Each refuses 1 2 3 4 5 6 7 8 12.
@@ -143,7 +233,7 @@ uint32_t hm_sequential(uint32_t size, uint32_t level, uint32_t column, uint32_t 
                        size_t book_len, const uint8_t *sample, size_t sample_len, uint8_t *accepted, uint16_t *used);
 
 /*
- * Judge readings by the lot's variables plan (s method) against an upper or a lower limit. No record is touched.
+ * Judge readings by the lot's variables plan (s method) against an upper or a lower limit.
  *   readings  exactly the plan's n, in gauge units from nominal, each -1,000 to 1,000
  *   limit     in the same units, -1,000 to 1,000
  *   accepted  1 or 0
@@ -157,6 +247,24 @@ uint32_t hm_variables_lower(uint32_t size, uint32_t level, uint32_t column, uint
                             size_t book_len, const uint8_t *readings, size_t readings_len, int32_t limit,
                             uint8_t *accepted, uint16_t *used);
 
+/* ---- the record and the history of a supply */
+
+/*
+ * Judge a sample at the record's severity, by the lot's single plan or its staged plan, and move the record by the
+ * verdict. A resubmitted lot is judged alike and leaves the record as it is.
+ *   resubmitted  HM_ORIGINAL, which is 0, for an original lot; HM_RESUBMITTED, or anything else, for a resubmitted one
+ *   accepted     1 or 0
+ *   used         items used: all of the sample
+ *   byte         the history byte that the lot stands for, HM_ACCEPTED_ADD_3 to HM_RESUBMITTED
+ * Each refuses 1 2 3 4 5 6 7 8 12.
+ */
+uint32_t hm_close_single(uint8_t *record, size_t record_len, uint32_t resubmitted, uint32_t size, uint32_t level,
+                         uint32_t column, const uint8_t *book, size_t book_len, const uint8_t *sample,
+                         size_t sample_len, uint8_t *accepted, uint16_t *used, uint8_t *byte);
+uint32_t hm_close_staged(uint8_t *record, size_t record_len, uint32_t resubmitted, uint32_t size, uint32_t level,
+                         uint32_t column, const uint8_t *book, size_t book_len, const uint8_t *sample,
+                         size_t sample_len, uint8_t *accepted, uint16_t *used, uint8_t *byte);
+
 /*
  * Move the record by one event, HM_ACCEPTED_ADD_3 to HM_CORRECTIVE: an order, or a lot judged elsewhere.
  * Refuses 1 5 10.
@@ -164,19 +272,13 @@ uint32_t hm_variables_lower(uint32_t size, uint32_t level, uint32_t column, uint
 uint32_t hm_next(uint8_t *record, size_t record_len, uint32_t event);
 
 /*
- * Judge a sample at the record's severity, by the lot's single plan or its staged plan, and move the record by the
- * verdict. A resubmitted lot is judged alike and leaves the record as it is.
- *   resubmitted  0 for an original lot, anything else for a resubmitted one
- *   accepted     1 or 0
- *   used         items used: all of the sample
- * Each refuses 1 2 3 4 5 6 7 8 12.
+ * The severity after each byte of a history of any length, from a fresh record.
+ *   severities  gets len of them; the rest of its room bytes stays
+ * Refuses 1 5 10, at the first bad byte, counted from 0 (one past 2^56 - 1 is told as that); then 11.
  */
-uint32_t hm_close_single(uint8_t *record, size_t record_len, uint32_t resubmitted, uint32_t size, uint32_t level,
-                         uint32_t column, const uint8_t *book, size_t book_len, const uint8_t *sample,
-                         size_t sample_len, uint8_t *accepted, uint16_t *used);
-uint32_t hm_close_staged(uint8_t *record, size_t record_len, uint32_t resubmitted, uint32_t size, uint32_t level,
-                         uint32_t column, const uint8_t *book, size_t book_len, const uint8_t *sample,
-                         size_t sample_len, uint8_t *accepted, uint16_t *used);
+uint64_t hm_list(const uint8_t *history, size_t len, uint8_t *severities, size_t room);
+
+/* ---- the book and the screen */
 
 /* Check a book, as each function that takes one does first. Refuses 12. */
 uint32_t hm_check_book(const uint8_t *book, size_t book_len);

@@ -42,10 +42,16 @@ static unsigned most_of(unsigned a, unsigned b) {
     return a > b ? a : b;
 }
 
+bool only_told(const struct call *c) {
+    return c->function == STAGED_PLAN || c->function == SEQUENTIAL_PLAN || c->function == VARIABLES_PLAN;
+}
+
 /* A sample size for the lot: mostly small, at times the whole lot or one more. */
 static unsigned draw_total(const struct call *c, unsigned usual, unsigned most) {
     if (c->size < most && one_in(6))
         return c->size + one_in(3);
+    if (only_told(c) && one_in(2))
+        return between(1, most_of(1, least_of(c->size, most)));
     if (one_in(500))
         return between(1, most);
     return between(1, least_of(most_of(c->size, 1), usual));
@@ -210,9 +216,9 @@ static void draw_entry(struct call *c, unsigned section, const key k, const key 
 }
 
 void draw_book(struct call *c, bool sure, struct plans *plans) {
-    bool known = c->size >= 2 && c->level <= 6;
-    key keys[64], lots = {(uint16_t)(c->severity <= 2 ? c->severity : below(3)),
-                          (uint16_t)(known ? ref_letter(c->size, c->level) : below(16)),
+    uint8_t letter = (uint8_t)below(16);
+    ref_letter(c->size, c->level, &letter);
+    key keys[64], lots = {(uint16_t)(c->severity <= 2 ? c->severity : below(3)), letter,
                           (uint16_t)(c->column <= 25 ? c->column : below(26))};
     memset(plans, 0, sizeof *plans);
     c->book_len = 0;

@@ -15,6 +15,9 @@ struct plans {
     unsigned n, k;
 };
 
+/* Whether the call asks for a plan of the book and draws nothing, so that its numbers may be large. */
+bool only_told(const struct call *call);
+
 /* Draws a sound book for the call's lot; where it is sure, each section has an entry under the lot's key. */
 void draw_book(struct call *call, bool sure, struct plans *plans);
 

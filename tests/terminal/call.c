@@ -8,72 +8,88 @@
 #include <stdio.h>
 #include <string.h>
 
-enum { NUMBERS = 13, GUARD = 16, MOST_REPORTS = 5 };
+enum { NUMBERS = 13, BYTES = 5, GUARD = 16, MOST_REPORTS = 5 };
 
 typedef uint32_t judge_function(uint32_t, uint32_t, uint32_t, uint32_t, const uint8_t *, size_t, const uint8_t *,
                                 size_t, uint8_t *, uint16_t *);
 typedef uint32_t variables_function(uint32_t, uint32_t, uint32_t, uint32_t, const uint8_t *, size_t, const uint8_t *,
                                     size_t, int32_t, uint8_t *, uint16_t *);
 typedef uint32_t close_function(uint8_t *, size_t, uint32_t, uint32_t, uint32_t, uint32_t, const uint8_t *, size_t,
-                                const uint8_t *, size_t, uint8_t *, uint16_t *);
+                                const uint8_t *, size_t, uint8_t *, uint16_t *, uint8_t *);
 
 struct library {
+    uint32_t (*letter)(uint32_t, uint32_t, uint8_t *);
     uint32_t (*plan)(uint32_t, uint32_t, uint32_t, uint32_t, const uint8_t *, size_t, uint8_t *, uint16_t *,
                      uint16_t *);
+    uint32_t (*staged_plan)(uint32_t, uint32_t, uint32_t, uint32_t, const uint8_t *, size_t, uint8_t *, uint8_t *,
+                            uint8_t *, size_t);
+    uint32_t (*sequential_plan)(uint32_t, uint32_t, uint32_t, uint32_t, const uint8_t *, size_t, uint8_t *, uint16_t *,
+                                uint16_t *, uint16_t *, uint16_t *, uint16_t *);
+    uint32_t (*variables_plan)(uint32_t, uint32_t, uint32_t, uint32_t, const uint8_t *, size_t, uint8_t *, uint16_t *,
+                               uint16_t *);
     judge_function *single, *staged, *sequential;
     variables_function *upper, *lower;
-    uint32_t (*next)(uint8_t *, size_t, uint32_t);
     close_function *close_single, *close_staged;
+    uint32_t (*next)(uint8_t *, size_t, uint32_t);
+    uint64_t (*list)(const uint8_t *, size_t, uint8_t *, size_t);
     uint32_t (*check_book)(const uint8_t *, size_t);
     uint32_t (*screen)(const uint8_t *, size_t, double *, double *, uint8_t *);
 };
 
 static const struct library proved = {
-    hm_plan, hm_single,       hm_staged,       hm_sequential, hm_variables_upper, hm_variables_lower,
-    hm_next, hm_close_single, hm_close_staged, hm_check_book, hm_screen,
+    hm_letter, hm_plan,       hm_staged_plan,     hm_sequential_plan, hm_variables_plan, hm_single,
+    hm_staged, hm_sequential, hm_variables_upper, hm_variables_lower, hm_close_single,   hm_close_staged,
+    hm_next,   hm_list,       hm_check_book,      hm_screen,
 };
 
 static const struct library reference = {
-    ref_plan, ref_single,       ref_staged,       ref_sequential, ref_variables_upper, ref_variables_lower,
-    ref_next, ref_close_single, ref_close_staged, ref_check_book, ref_screen,
+    ref_letter, ref_plan,       ref_staged_plan,     ref_sequential_plan, ref_variables_plan, ref_single,
+    ref_staged, ref_sequential, ref_variables_upper, ref_variables_lower, ref_close_single,   ref_close_staged,
+    ref_next,   ref_list,       ref_check_book,      ref_screen,
 };
 
 #define BIT(number) (1u << (number))
 #define LOT_NUMBERS (BIT(1) | BIT(2) | BIT(3) | BIT(4) | BIT(5) | BIT(6) | BIT(12))
 #define ITEM_NUMBERS (LOT_NUMBERS | BIT(7) | BIT(8))
 
-/* The numbers that each function can give beside 0. */
+/* The numbers that each function can give beside 0, whether it gives verdicts, and the history bytes that it tells. */
 static const struct {
     const char *name;
     unsigned numbers;
     bool judges;
+    unsigned bytes;
 } about[FUNCTIONS] = {
-    [PLAN] = {"hm_plan", LOT_NUMBERS, false},
-    [SINGLE] = {"hm_single", ITEM_NUMBERS, true},
-    [STAGED] = {"hm_staged", ITEM_NUMBERS, true},
-    [SEQUENTIAL] = {"hm_sequential", ITEM_NUMBERS, true},
-    [UPPER] = {"hm_variables_upper", LOT_NUMBERS | BIT(7) | BIT(9), true},
-    [LOWER] = {"hm_variables_lower", LOT_NUMBERS | BIT(7) | BIT(9), true},
-    [NEXT] = {"hm_next", BIT(1) | BIT(5) | BIT(10), false},
-    [CLOSE_SINGLE] = {"hm_close_single", ITEM_NUMBERS, true},
-    [CLOSE_STAGED] = {"hm_close_staged", ITEM_NUMBERS, true},
-    [CHECK_BOOK] = {"hm_check_book", BIT(12), false},
-    [SCREEN] = {"hm_screen", BIT(7) | BIT(9), false},
+    [LETTER] = {"hm_letter", BIT(2) | BIT(3), false, 0},
+    [PLAN] = {"hm_plan", LOT_NUMBERS, false, 0},
+    [STAGED_PLAN] = {"hm_staged_plan", LOT_NUMBERS | BIT(11), false, 0},
+    [SEQUENTIAL_PLAN] = {"hm_sequential_plan", LOT_NUMBERS, false, 0},
+    [VARIABLES_PLAN] = {"hm_variables_plan", LOT_NUMBERS, false, 0},
+    [SINGLE] = {"hm_single", ITEM_NUMBERS, true, 0},
+    [STAGED] = {"hm_staged", ITEM_NUMBERS, true, 0},
+    [SEQUENTIAL] = {"hm_sequential", ITEM_NUMBERS, true, 0},
+    [UPPER] = {"hm_variables_upper", LOT_NUMBERS | BIT(7) | BIT(9), true, 0},
+    [LOWER] = {"hm_variables_lower", LOT_NUMBERS | BIT(7) | BIT(9), true, 0},
+    [CLOSE_SINGLE] = {"hm_close_single", ITEM_NUMBERS, true, BIT(0) | BIT(1) | BIT(2) | BIT(3) | BIT(4)},
+    [CLOSE_STAGED] = {"hm_close_staged", ITEM_NUMBERS, true, BIT(0) | BIT(2) | BIT(3) | BIT(4)},
+    [NEXT] = {"hm_next", BIT(1) | BIT(5) | BIT(10), false, 0},
+    [LIST] = {"hm_list", BIT(1) | BIT(5) | BIT(10) | BIT(11), false, 0},
+    [CHECK_BOOK] = {"hm_check_book", BIT(12), false, 0},
+    [SCREEN] = {"hm_screen", BIT(7) | BIT(9), false, 0},
 };
 
-static struct { unsigned long calls, numbers[NUMBERS], verdicts[2]; } tally[FUNCTIONS];
+static struct { unsigned long calls, numbers[NUMBERS], verdicts[2], bytes[BYTES]; } tally[FUNCTIONS];
 static unsigned long differences;
 
-/* ---- memory lent for reading: between random guard bytes, at even and odd addresses, and held to a copy */
+/* ---- lent memory: between random guard bytes, at even and odd addresses, with a copy of what it held */
 
 struct lent {
     uint8_t room[GUARD + 1 + BOOK_ROOM + GUARD], copy[GUARD + 1 + BOOK_ROOM + GUARD];
     size_t start, len;
 };
 
-static struct lent lent_book, lent_sample;
+static struct lent lent_book, lent_sample, lent_out, expected_out;
 
-static const uint8_t *lend(struct lent *lent, const uint8_t *bytes, size_t len) {
+static uint8_t *lend(struct lent *lent, const uint8_t *bytes, size_t len) {
     lent->start = GUARD + below(2);
     lent->len = len;
     draw_bytes(lent->room, lent->start);
@@ -85,6 +101,25 @@ static const uint8_t *lend(struct lent *lent, const uint8_t *bytes, size_t len) 
 
 static bool unchanged(const struct lent *lent) {
     return memcmp(lent->room, lent->copy, lent->start + lent->len + GUARD) == 0;
+}
+
+static bool is_expected(const struct lent *lent, const struct lent *expected) {
+    return memcmp(lent->room, expected->room, lent->start + lent->len + GUARD) == 0;
+}
+
+/* The same random bytes for both sides to write to. */
+static void lend_out(size_t len) {
+    static uint8_t drawn[SAMPLE_ROOM];
+    draw_bytes(drawn, len);
+    lend(&lent_out, drawn, len);
+    expected_out.start = lent_out.start;
+    expected_out.len = len;
+    memcpy(expected_out.room, lent_out.room, lent_out.start + len + GUARD);
+    memcpy(expected_out.copy, lent_out.room, lent_out.start + len + GUARD);
+}
+
+const uint8_t *last_out(void) {
+    return lent_out.room + lent_out.start;
 }
 
 /* ---- a call */
@@ -104,14 +139,25 @@ static uint32_t run_variables(variables_function *judge, const struct call *c, c
 static uint32_t run_close(close_function *close, const struct call *c, const uint8_t *book, const uint8_t *sample,
                           struct answer *a) {
     return close(a->record, c->record_len, c->resubmitted, c->size, c->level, c->column, book, c->book_len, sample,
-                 c->sample_len, &a->accepted, &a->used);
+                 c->sample_len, &a->accepted, &a->used, &a->byte);
 }
 
-static uint32_t run(const struct library *of, const struct call *c, const uint8_t *book, const uint8_t *sample,
-                    struct answer *a) {
+static uint64_t run(const struct library *of, const struct call *c, const uint8_t *book, const uint8_t *sample,
+                    uint8_t *out, struct answer *a) {
     switch (c->function) {
+    case LETTER:
+        return of->letter(c->size, c->level, &a->letter);
     case PLAN:
         return of->plan(c->size, c->level, c->column, c->severity, book, c->book_len, &a->letter, &a->n, &a->ac);
+    case STAGED_PLAN:
+        return of->staged_plan(c->size, c->level, c->column, c->severity, book, c->book_len, &a->letter, &a->stages,
+                               out, c->out_len);
+    case SEQUENTIAL_PLAN:
+        return of->sequential_plan(c->size, c->level, c->column, c->severity, book, c->book_len, &a->letter, &a->ha,
+                                   &a->hr, &a->g, &a->nt, &a->at);
+    case VARIABLES_PLAN:
+        return of->variables_plan(c->size, c->level, c->column, c->severity, book, c->book_len, &a->letter, &a->n,
+                                  &a->k);
     case SINGLE:
         return run_judge(of->single, c, book, sample, a);
     case STAGED:
@@ -122,12 +168,14 @@ static uint32_t run(const struct library *of, const struct call *c, const uint8_
         return run_variables(of->upper, c, book, sample, a);
     case LOWER:
         return run_variables(of->lower, c, book, sample, a);
-    case NEXT:
-        return of->next(a->record, c->record_len, c->event);
     case CLOSE_SINGLE:
         return run_close(of->close_single, c, book, sample, a);
     case CLOSE_STAGED:
         return run_close(of->close_staged, c, book, sample, a);
+    case NEXT:
+        return of->next(a->record, c->record_len, c->event);
+    case LIST:
+        return of->list(sample, c->sample_len, out, c->out_len);
     case CHECK_BOOK:
         return of->check_book(book, c->book_len);
     default:
@@ -135,61 +183,24 @@ static uint32_t run(const struct library *of, const struct call *c, const uint8_
     }
 }
 
-static void count(const struct call *c, uint32_t status, const struct answer *a) {
-    unsigned number = HM_NUMBER(status);
+static void count(const struct call *c, uint64_t status, const struct answer *a) {
+    unsigned number = HM_LIST_NUMBER(status), verdict = a->accepted & 1, byte = a->byte;
     tally[c->function].calls++;
     if (number >= NUMBERS || (number != 0 && (about[c->function].numbers & BIT(number)) == 0))
         report("a number that this function cannot give", c);
     else
         tally[c->function].numbers[number]++;
-    if (status == 0 && about[c->function].judges)
-        tally[c->function].verdicts[a->accepted & 1]++;
-}
-
-static void print_side(const char *side, uint32_t status, const struct answer *a) {
-    const uint8_t *r = a->record;
-    printf("%s: status %u at %u; letter %u n %u Ac %u; accepted %u used %u; mean %g variance %g both %u; ", side,
-           (unsigned)HM_NUMBER(status), (unsigned)HM_PLACE(status), a->letter, a->n, a->ac, a->accepted, a->used,
-           a->mean, a->variance, a->both);
-    printf("record %u %u %u %u %u %u %u\n", r[0], r[1], r[2], r[3], r[4], r[5], r[6]);
-}
-
-/* What a side did not write is the same random bytes on both. */
-static void hold(const struct call *c, uint32_t status, const struct answer *a, uint32_t expected_status,
-                 const struct answer *expected) {
-    bool same_answer = memcmp(a, expected, sizeof *a) == 0;
-    if (status == expected_status && same_answer)
+    if (status != 0)
         return;
-    if (differences < MOST_REPORTS) {
-        print_side("proved   ", status, a);
-        print_side("reference", expected_status, expected);
-    }
-    if (status != expected_status)
-        report("the status differs", c);
-    else
-        report(status == 0 ? "an answer, the record or a guard byte differs" : "a refusal wrote", c);
+    if (about[c->function].judges)
+        tally[c->function].verdicts[verdict]++;
+    if (about[c->function].bytes != 0 && (byte >= BYTES || (about[c->function].bytes & BIT(byte)) == 0))
+        report("a history byte that this function cannot tell", c);
+    else if (about[c->function].bytes != 0)
+        tally[c->function].bytes[byte]++;
 }
 
-uint32_t run_both(const struct call *c, struct answer *a) {
-    static struct answer before, expected;
-    const uint8_t *book = lend(&lent_book, c->book, c->book_len);
-    const uint8_t *sample = lend(&lent_sample, c->sample, c->sample_len);
-    draw_bytes((uint8_t *)&before, sizeof before);
-    memcpy(before.record, c->record, c->record_len);
-    memcpy(a, &before, sizeof before);
-    memcpy(&expected, &before, sizeof before);
-    uint32_t status = run(&proved, c, book, sample, a);
-    if (!unchanged(&lent_book) || !unchanged(&lent_sample))
-        report("memory lent for reading, or a guard byte around it, was changed", c);
-    uint32_t expected_status = run(&reference, c, book, sample, &expected);
-    if (expected_status != 0 && memcmp(&expected, &before, sizeof before) != 0)
-        report("the reference wrote beside a refusal", c);
-    hold(c, status, a, expected_status, &expected);
-    count(c, status, a);
-    return status;
-}
-
-/* ---- reports */
+/* ---- what differs. What a side did not write is the same random bytes on both. */
 
 static void print_bytes(const char *name, const uint8_t *bytes, size_t len) {
     printf("  %s, %zu bytes:", name, len);
@@ -198,33 +209,102 @@ static void print_bytes(const char *name, const uint8_t *bytes, size_t len) {
     printf("%s\n", len > 400 ? " .." : "");
 }
 
+static void print_side(const char *side, uint64_t status, const struct answer *a, const struct lent *out) {
+    const uint8_t *r = a->record;
+    printf("%s: status %u at %llu; letter %u n %u Ac %u; accepted %u used %u byte %u; ", side,
+           (unsigned)HM_LIST_NUMBER(status), (unsigned long long)HM_LIST_PLACE(status), a->letter, a->n, a->ac,
+           a->accepted, a->used, a->byte);
+    printf("stages %u; hA %u hR %u g %u nt %u At %u; k %u; mean %g variance %g both %u; ", a->stages, a->ha, a->hr,
+           a->g, a->nt, a->at, a->k, a->mean, a->variance, a->both);
+    printf("record %u %u %u %u %u %u %u\n", r[0], r[1], r[2], r[3], r[4], r[5], r[6]);
+    print_bytes("row or severities", out->room + out->start, out->len);
+}
+
+static void hold(const struct call *c, uint64_t status, const struct answer *a, uint64_t expected_status,
+                 const struct answer *expected) {
+    bool same_answer = memcmp(a, expected, sizeof *a) == 0 && is_expected(&lent_out, &expected_out);
+    if (status == expected_status && same_answer)
+        return;
+    if (differences < MOST_REPORTS) {
+        print_side("proved   ", status, a, &lent_out);
+        print_side("reference", expected_status, expected, &expected_out);
+    }
+    if (status != expected_status)
+        report("the status differs", c);
+    else
+        report(status == 0 ? "an answer, the record, lent bytes or a guard byte differs" : "a refusal wrote", c);
+}
+
+/* A list is held to the written reading as well, which keeps no record. */
+static void hold_to_reading(const struct call *c, uint64_t status) {
+    static uint8_t read[SAMPLE_ROOM];
+    if (ref_read_list(c->sample, c->sample_len, read, c->out_len) != status)
+        report("the written reading has another status", c);
+    else if (status == 0 && memcmp(read, last_out(), c->sample_len) != 0)
+        report("the written reading has other severities", c);
+}
+
+uint64_t run_both(const struct call *c, struct answer *a) {
+    static struct answer before, expected;
+    const uint8_t *book = lend(&lent_book, c->book, c->book_len);
+    const uint8_t *sample = lend(&lent_sample, c->sample, c->sample_len);
+    draw_bytes((uint8_t *)&before, sizeof before);
+    memcpy(before.record, c->record, c->record_len);
+    memcpy(a, &before, sizeof before);
+    memcpy(&expected, &before, sizeof before);
+    lend_out(c->function == STAGED_PLAN || c->function == LIST ? c->out_len : 0);
+    uint64_t status = run(&proved, c, book, sample, lent_out.room + lent_out.start, a);
+    if (!unchanged(&lent_book) || !unchanged(&lent_sample))
+        report("memory lent for reading, or a guard byte around it, was changed", c);
+    uint64_t expected_status = run(&reference, c, book, sample, expected_out.room + expected_out.start, &expected);
+    if (expected_status != 0 && (memcmp(&expected, &before, sizeof before) != 0 || !unchanged(&expected_out)))
+        report("the reference wrote beside a refusal", c);
+    hold(c, status, a, expected_status, &expected);
+    if (c->function == LIST)
+        hold_to_reading(c, status);
+    count(c, status, a);
+    return status;
+}
+
+/* ---- reports */
+
 void report(const char *what, const struct call *c) {
     if (++differences > MOST_REPORTS)
         return;
     printf("DIFFERENCE, %s: %s\n", about[c->function].name, what);
-    printf("  size %u level %u column %u severity %u resubmitted %u event %u limit %d\n", (unsigned)c->size,
+    printf("  size %u level %u column %u severity %u resubmitted %u event %u limit %d room %zu\n", (unsigned)c->size,
            (unsigned)c->level, (unsigned)c->column, (unsigned)c->severity, (unsigned)c->resubmitted, (unsigned)c->event,
-           (int)c->limit);
+           (int)c->limit, c->out_len);
     print_bytes("record", c->record, c->record_len);
     print_bytes("book", c->book, c->book_len);
-    print_bytes("sample", c->sample, c->sample_len);
+    print_bytes("sample, readings or history", c->sample, c->sample_len);
     printf("  drawn from 0x%016llx (0: a fixed case)\n", (unsigned long long)draw_case_seed());
 }
 
-static bool summary_of(enum function f) {
+/* Prints what of the expected was counted, each after a space; false where one of them never was. */
+static bool print_counts(unsigned expected, const unsigned long *counted, unsigned first, unsigned end) {
     bool ok = true;
-    printf("%-19s %8lu calls, %7lu answered", about[f].name, tally[f].calls, tally[f].numbers[0]);
-    if (about[f].judges)
-        printf(" (%lu accepted, %lu not)", tally[f].verdicts[1], tally[f].verdicts[0]);
-    printf(", refused:");
-    for (unsigned number = 1; number < NUMBERS; number++)
-        if (about[f].numbers & BIT(number)) {
-            printf(" %u:%lu", number, tally[f].numbers[number]);
-            ok = ok && tally[f].numbers[number] != 0;
+    for (unsigned i = first; i < end; i++)
+        if (expected & BIT(i)) {
+            printf(" %u:%lu", i, counted[i]);
+            ok = ok && counted[i] != 0;
         }
-    ok = ok && tally[f].numbers[0] != 0;
-    if (about[f].judges)
+    return ok;
+}
+
+static bool summary_of(enum function f) {
+    bool ok = tally[f].numbers[0] != 0;
+    printf("%-18s %8lu calls, %7lu answered", about[f].name, tally[f].calls, tally[f].numbers[0]);
+    if (about[f].judges) {
+        printf(" (%lu accepted, %lu not)", tally[f].verdicts[1], tally[f].verdicts[0]);
         ok = ok && tally[f].verdicts[0] != 0 && tally[f].verdicts[1] != 0;
+    }
+    if (about[f].bytes != 0) {
+        printf(", bytes:");
+        ok = print_counts(about[f].bytes, tally[f].bytes, 0, BYTES) && ok;
+    }
+    printf(", refused:");
+    ok = print_counts(about[f].numbers, tally[f].numbers, 1, NUMBERS) && ok;
     printf("%s\n", ok ? "" : "  SOMETHING NEVER OCCURRED");
     return ok;
 }

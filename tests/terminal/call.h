@@ -7,29 +7,37 @@
 #include <stdint.h>
 
 enum function {
+    LETTER,
     PLAN,
+    STAGED_PLAN,
+    SEQUENTIAL_PLAN,
+    VARIABLES_PLAN,
     SINGLE,
     STAGED,
     SEQUENTIAL,
     UPPER,
     LOWER,
-    NEXT,
     CLOSE_SINGLE,
     CLOSE_STAGED,
+    NEXT,
+    LIST,
     CHECK_BOOK,
     SCREEN,
     FUNCTIONS
 };
 
-enum { BOOK_ROOM = 40000, SAMPLE_ROOM = 40000, RECORD_ROOM = 9 };
+enum { BOOK_ROOM = 40000, SAMPLE_ROOM = 40000, RECORD_ROOM = 9, RECORD = 7, ROW = 42 };
 
-/* Everything that a function could be passed; each takes what it has a parameter for. */
+/*
+ * Everything that a function could be passed; each takes what it has a parameter for. Readings and histories are lent
+ * as the sample. The bytes lent for a row of stages, or for severities, are out_len, at most SAMPLE_ROOM.
+ */
 struct call {
     enum function function;
     uint32_t size, level, column, severity, resubmitted, event;
     int32_t limit;
     unsigned first_stage; /* of the staged plan in the book, for the history of a supply; passed to none */
-    size_t book_len, sample_len, record_len;
+    size_t book_len, sample_len, record_len, out_len;
     uint8_t book[BOOK_ROOM], sample[SAMPLE_ROOM], record[RECORD_ROOM];
 };
 
@@ -40,16 +48,18 @@ struct answer {
     uint64_t guard_1;
     double variance;
     uint64_t guard_2;
-    uint16_t n, guard_3[3], ac, guard_4[3], used, guard_5[3];
-    uint8_t letter, guard_6[7], accepted, guard_7[7], both, guard_8[7 + 8];
-    uint8_t record[RECORD_ROOM], guard_9[15];
+    uint16_t n, guard_3[3], ac, guard_4[3], used, guard_5[3], ha, guard_6[3], hr, guard_7[3], g, guard_8[3];
+    uint16_t nt, guard_9[3], at, guard_10[3], k, guard_11[3];
+    uint8_t letter, guard_12[7], stages, guard_13[7], accepted, guard_14[7], both, guard_15[7], byte, guard_16[15];
+    uint8_t record[RECORD_ROOM], guard_17[15];
 };
 
 /*
- * Runs the proved function and the reference on one call, holds one to the other, counts it, and gives the status.
- * The answer is the proved function's.
+ * Runs the proved function and the reference on one call, holds one to the other, counts it, and gives the status,
+ * that of LIST or any other. The answer is the proved function's, and so are the out_len bytes of last_out.
  */
-uint32_t run_both(const struct call *call, struct answer *answer);
+uint64_t run_both(const struct call *call, struct answer *answer);
+const uint8_t *last_out(void);
 
 /* Notes a difference that run_both cannot see, and prints the first ones. */
 void report(const char *what, const struct call *call);

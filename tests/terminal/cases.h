@@ -7,12 +7,19 @@
 /* What the standards and document 01 publish. */
 void published_cases(void);
 
-/* Every plan of the two tables, every record in range by every event, and books at the longest length. */
+/* Every letter and plan of the tables, every row of stages, every record by every event, and the longest books. */
 void exhaustive_cases(void);
 
+/* Every mixture of what a lot can be refused for, in each function that takes one. */
+void refusal_cases(void);
+
+/* Worked histories, every short one from a fresh record and from others, every room, and one of over 2^24 bytes. */
+void history_cases(void);
+
 /*
- * Long supplies from a fresh record, each record held to a fresh reading of the whole history so far. False where some
- * change of severity never occurred.
+ * Long supplies from a fresh record, with a history of what each closed lot is told to be. Each record is held to a
+ * fresh reading of the whole history so far, and the list of the history to the severities. False where some change of
+ * severity never occurred.
  */
 bool long_supplies(unsigned supplies, unsigned events);
 

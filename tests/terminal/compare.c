@@ -24,6 +24,8 @@ int main(int argc, char **argv) {
     bool ok = long_supplies(SUPPLIES, SUPPLY_EVENTS);
     published_cases();
     exhaustive_cases();
+    refusal_cases();
+    history_cases();
     ok = summary() && ok;
     printf("%s\n", ok ? "the proved library and the reference agree" : "FAILED");
     return ok ? 0 : 1;

@@ -6,18 +6,12 @@
 
 #include <string.h>
 
-#define PICK(array) (array)[below(sizeof(array) / sizeof *(array))]
-
 enum { MOST_ITEM_COLUMN = 15, STOPPED = 3 };
 
 /* What a drawn sample is to be. */
 enum mood { ANY, GOOD, BAD };
 
-static uint64_t state = 1, case_seed;
-
-void draw_seed(uint64_t seed) {
-    state = seed != 0 ? seed : 1;
-}
+static uint64_t case_seed;
 
 uint64_t draw_case_seed(void) {
     return case_seed;
@@ -27,38 +21,12 @@ void draw_fixed(void) {
     case_seed = 0;
 }
 
-static uint64_t draw(void) {
-    state ^= state << 13;
-    state ^= state >> 7;
-    state ^= state << 17;
-    return state * 0x2545f4914f6cdd1du;
-}
-
-uint32_t below(uint32_t n) {
-    return (uint32_t)((draw() >> 32) * n >> 32);
-}
-
-uint32_t between(uint32_t low, uint32_t high) {
-    return low + below(high - low + 1);
-}
-
-bool one_in(uint32_t n) {
-    return below(n) == 0;
-}
-
-void draw_bytes(uint8_t *bytes, size_t len) {
-    for (size_t i = 0; i < len; i += 8) {
-        uint64_t bits = draw();
-        memcpy(bytes + i, &bits, len - i < 8 ? len - i : 8);
-    }
-}
-
 /* ---- the lot */
 
 static uint32_t any_number(void) {
     static const uint32_t odd[] = {0,   1,   2,     3,     4,     7,          26,         255,
                                    256, 257, 65535, 65536, 65541, 0x7fffffff, 0x80000000, 0xffffffff};
-    return one_in(2) ? PICK(odd) : (uint32_t)(draw() >> 32) >> below(32);
+    return one_in(2) ? PICK(odd) : draw_number() >> below(32);
 }
 
 static uint32_t draw_size(void) {
@@ -75,8 +43,9 @@ static uint32_t draw_size(void) {
 }
 
 static void draw_lot(struct call *c) {
-    bool low_columns = c->function == SEQUENTIAL || c->function == UPPER || c->function == LOWER;
-    c->size = draw_size();
+    bool low_columns = c->function == SEQUENTIAL || c->function == UPPER || c->function == LOWER ||
+                       c->function == SEQUENTIAL_PLAN || c->function == VARIABLES_PLAN;
+    c->size = only_told(c) && one_in(2) ? between(2, 20000) : draw_size();
     c->level = one_in(60) ? any_number() : below(7);
     c->column = one_in(60) ? any_number() : low_columns && !one_in(20) ? below(16) : below(26);
     c->severity = one_in(60) ? any_number() : one_in(40) ? STOPPED : below(3);
@@ -87,7 +56,7 @@ static void draw_lot(struct call *c) {
 /* A record in range of the given severity, often one lot from a change. */
 static void draw_sound_record(struct call *c, unsigned severity) {
     memset(c->record, 0, sizeof c->record);
-    c->record_len = 7;
+    c->record_len = RECORD;
     c->record[0] = (uint8_t)severity;
     c->record[1] = (uint8_t)(severity != 0 ? 0 : one_in(2) ? between(24, 30) : below(31));
     c->record[2] = (uint8_t)(severity != 1 ? 0 : one_in(2) ? 4 : below(5));
@@ -266,7 +235,7 @@ static void damage_readings(struct call *c) {
     static const int readings[] = {1001, -1001, 32767, -32768, 1000, -1000, 1255, -1256};
     static const int32_t limits[] = {1001, -1001, INT32_MAX, INT32_MIN, 65536, -65536, 66036, 1000, -1000};
     if (one_in(3))
-        c->limit = one_in(4) ? (int32_t)(uint32_t)draw() : PICK(limits);
+        c->limit = one_in(4) ? (int32_t)draw_number() : PICK(limits);
     else if (one_in(2) && c->sample_len >= 2)
         set_item(c, below((uint32_t)c->sample_len / 2), (unsigned)PICK(readings) & 65535);
     else
@@ -290,12 +259,49 @@ static void draw_gauged(struct call *c, const struct plans *p) {
         damage_readings(c);
 }
 
+/* ---- histories */
+
+/* Moves the record of a drawn history by a byte; false where that is refused. */
+static bool goes_on(uint8_t *record, uint8_t byte) {
+    return ref_next(record, RECORD, byte) == 0;
+}
+
+/*
+ * Mostly a history that goes on, since bytes that would be refused are drawn again; at times one is kept, or any byte.
+ * Some have few orders and few lots not accepted, so that they go deep into a stay.
+ */
+static void draw_history(struct call *c) {
+    static const uint8_t steady[] = {0, 0, 0, 0, 0, 0, 0, 1, 1, 2, 3, 4, 5, 7, 9}, poor[] = {0, 2, 3, 3, 4, 9};
+    uint8_t record[RECORD] = {0}, byte;
+    size_t wanted = one_in(20) ? below(1500) : below(48);
+    unsigned kind = below(3), bad_in = one_in(3) ? 20 : 100000;
+    for (c->sample_len = 0; c->sample_len < wanted;) {
+        byte = kind == 0 ? PICK(steady) : kind == 1 ? PICK(poor) : (uint8_t)below(10);
+        if (one_in(bad_in))
+            byte = (uint8_t)(one_in(2) ? between(9, 12) : below(256));
+        if (goes_on(record, byte) || one_in(bad_in))
+            c->sample[c->sample_len++] = byte;
+    }
+}
+
+/* A buffer for as many bytes as are written, or for fewer, or for more. */
+static void draw_room(struct call *c) {
+    size_t written = c->function == LIST ? c->sample_len : ROW;
+    c->out_len = written;
+    if (one_in(4))
+        c->out_len += below(20);
+    else if (one_in(4))
+        c->out_len -= written > 0 && one_in(2) ? 1 : below((uint32_t)written + 1);
+}
+
 /* ---- a case */
 
 static enum function draw_function(void) {
     static const uint8_t often[FUNCTIONS] = {
-        [PLAN] = 8, [SINGLE] = 12,       [STAGED] = 16,      [SEQUENTIAL] = 14, [UPPER] = 8, [LOWER] = 8,
-        [NEXT] = 6, [CLOSE_SINGLE] = 10, [CLOSE_STAGED] = 9, [CHECK_BOOK] = 6,  [SCREEN] = 3};
+        [LETTER] = 1,         [PLAN] = 7,    [STAGED_PLAN] = 5,  [SEQUENTIAL_PLAN] = 3,
+        [VARIABLES_PLAN] = 3, [SINGLE] = 11, [STAGED] = 14,      [SEQUENTIAL] = 12,
+        [UPPER] = 7,          [LOWER] = 7,   [CLOSE_SINGLE] = 9, [CLOSE_STAGED] = 8,
+        [NEXT] = 4,           [LIST] = 2,    [CHECK_BOOK] = 5,   [SCREEN] = 2};
     unsigned at = below(100), f = 0;
     for (; at >= often[f]; f++)
         at -= often[f];
@@ -316,21 +322,25 @@ static void draw_sample(struct call *c, const struct plans *p) {
 
 void draw_case(struct call *c) {
     struct plans plans;
-    case_seed = state;
+    case_seed = draw_state();
     c->function = draw_function();
     draw_lot(c);
     c->resubmitted = one_in(4) ? any_number() : 0;
     c->event = one_in(20) ? any_number() : below(13);
     draw_record(c);
     draw_book(c, false, &plans);
-    draw_sample(c, &plans);
+    if (c->function == LIST)
+        draw_history(c);
+    else
+        draw_sample(c, &plans);
+    draw_room(c);
     if (one_in(c->function == CHECK_BOOK ? 2 : 10))
         damage_book(c);
 }
 
 void draw_next_lot(struct call *c, bool good) {
     struct plans plans;
-    case_seed = state;
+    case_seed = draw_state();
     c->size = one_in(4) ? between(2, 500) : between(2, 60);
     c->level = below(7);
     c->column = below(26);

@@ -3,18 +3,11 @@
 #define DRAW_H
 
 #include "call.h"
+#include "random.h"
 
-/* A xorshift generator. Its state before a case is the seed that draws the same case again. */
-void draw_seed(uint64_t seed);
-
-/* The seed of the present case; 0 for a fixed one, after draw_fixed. */
+/* The seed that draws the present case again; 0 for a fixed one, after draw_fixed. */
 uint64_t draw_case_seed(void);
 void draw_fixed(void);
-
-uint32_t below(uint32_t n);                    /* 0 to n - 1 */
-uint32_t between(uint32_t low, uint32_t high); /* both included */
-bool one_in(uint32_t n);
-void draw_bytes(uint8_t *bytes, size_t len);
 
 /* Any call of any function. */
 void draw_case(struct call *call);

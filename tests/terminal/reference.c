@@ -1,4 +1,4 @@
-/* A plain reading of document 01, section by section. See reference.h. */
+/* A plain reading of document 01, section by section, with the record kept from lot to lot. See reference.h. */
 #include "reference.h"
 
 #include <stdbool.h>
@@ -7,6 +7,8 @@
 enum { NORMAL, TIGHTENED, REDUCED, STOPPED };
 enum { ADD_3, ADD_2, SCORE_0, NOT_ACCEPTED, RESUBMITTED, STEADY, NOT_STEADY, PERMISSION, WITHDRAWN, CORRECTIVE };
 enum { MARK = 65535, MOST_STAGES = 7, MOST_BOOK = 32768, ITEMS_COLUMN = 15, LETTER_A = 0, LETTER_E = 4, LETTER_R = 15 };
+
+#define MOST_PLACE (((uint64_t)1 << 56) - 1)
 
 static unsigned number_at(const uint8_t *bytes, size_t at) {
     return bytes[at] | (unsigned)bytes[at + 1] << 8;
@@ -30,7 +32,7 @@ static unsigned letter_code(char letter) {
     return (unsigned)(letter - 'A' - (letter > 'I') - (letter > 'O'));
 }
 
-unsigned ref_letter(uint32_t size, uint32_t level) {
+static unsigned table_letter(uint32_t size, uint32_t level) {
     const struct band *band = table_1;
     while (size > band->up_to)
         band++;
@@ -285,7 +287,7 @@ static uint32_t check_lot(struct lot *lot) {
         return 4;
     if (lot->severity == STOPPED)
         return 5;
-    lot->letter = ref_letter(lot->size, lot->level);
+    lot->letter = table_letter(lot->size, lot->level);
     return 0;
 }
 
@@ -480,21 +482,32 @@ static bool margin_suffices(int64_t margin, const struct sums *sums, int64_t k) 
     return margin >= 0 && 1000000 * margin * margin * (sums->n - 1) >= k * k * sums->n * spread(sums);
 }
 
-static uint32_t judge_variables(struct lot *lot, const uint8_t *readings, size_t len, int32_t limit, int side,
-                                unsigned *accepted, unsigned *used) {
-    struct sums sums;
+struct variables_plan {
+    unsigned n, k;
+};
+
+static uint32_t find_variables(const struct lot *lot, struct variables_plan *plan) {
     size_t body = find_for_lot(lot, VARIABLES);
     if (body == SOUND)
         return 6;
-    unsigned n = number_at(lot->book.bytes, body), k = number_at(lot->book.bytes, body + 2);
-    if (n > lot->size)
-        return 6;
-    if (len != 2 * (size_t)n)
+    plan->n = number_at(lot->book.bytes, body);
+    plan->k = number_at(lot->book.bytes, body + 2);
+    return plan->n > lot->size ? 6 : 0;
+}
+
+static uint32_t judge_variables(struct lot *lot, const uint8_t *readings, size_t len, int32_t limit, int side,
+                                unsigned *accepted, unsigned *used) {
+    struct variables_plan plan;
+    struct sums sums;
+    uint32_t status = find_variables(lot, &plan);
+    if (status != 0)
+        return status;
+    if (len != 2 * (size_t)plan.n)
         return 7;
-    if (add_readings(readings, n, &sums) != 0 || !in_gauge(limit))
+    if (add_readings(readings, plan.n, &sums) != 0 || !in_gauge(limit))
         return 9;
-    *accepted = margin_suffices(side * (sums.n * limit - sums.sum), &sums, k);
-    *used = n;
+    *accepted = margin_suffices(side * (sums.n * limit - sums.sum), &sums, plan.k);
+    *used = plan.n;
     return 0;
 }
 
@@ -598,23 +611,34 @@ static uint32_t step(struct record *r, unsigned event) {
     return 0;
 }
 
-/* ---- what a closed lot is to the record */
+/* ---- what a closed lot is to the record: a history byte. Only normal has a score; elsewhere no points are told. */
 
 static unsigned single_event(const struct lot *lot, const struct single_plan *plan, const struct verdict *verdict) {
     if (!verdict->accepted)
         return NOT_ACCEPTED;
-    if (lot->severity != NORMAL || plan->ac < 2)
+    if (lot->severity != NORMAL)
+        return SCORE_0;
+    if (plan->ac < 2)
         return ADD_2;
     return (int)verdict->total <= normal_box(plan->letter, lot->column - 1) ? ADD_3 : SCORE_0;
 }
 
-static unsigned staged_event(const struct verdict *verdict) {
+static unsigned staged_event(const struct lot *lot, const struct verdict *verdict) {
     if (!verdict->accepted)
         return NOT_ACCEPTED;
-    return verdict->stage == 1 ? ADD_3 : SCORE_0;
+    return lot->severity == NORMAL && verdict->stage == 1 ? ADD_3 : SCORE_0;
 }
 
-/* ---- the entries */
+/* ---- the entries: plans */
+
+uint32_t ref_letter(uint32_t size, uint32_t level, uint8_t *letter) {
+    if (size < 2)
+        return 2;
+    if (level > 6)
+        return 3;
+    *letter = (uint8_t)table_letter(size, level);
+    return 0;
+}
 
 uint32_t ref_plan(uint32_t size, uint32_t level, uint32_t column, uint32_t severity, const uint8_t *book,
                   size_t book_len, uint8_t *letter, uint16_t *n, uint16_t *ac) {
@@ -630,6 +654,69 @@ uint32_t ref_plan(uint32_t size, uint32_t level, uint32_t column, uint32_t sever
     *ac = (uint16_t)plan.ac;
     return 0;
 }
+
+/* One number of a row of 21: seven sizes, seven Ac, seven Re, two bytes each, low byte first. */
+static void put_number(uint8_t *row, unsigned at, unsigned number) {
+    row[2 * at] = (uint8_t)(number & 255);
+    row[2 * at + 1] = (uint8_t)(number >> 8);
+}
+
+uint32_t ref_staged_plan(uint32_t size, uint32_t level, uint32_t column, uint32_t severity, const uint8_t *book,
+                         size_t book_len, uint8_t *letter, uint8_t *stages, uint8_t *row, size_t row_len) {
+    struct lot lot = {.size = size, .level = level, .column = column, .severity = severity};
+    struct staged_plan plan = {0};
+    uint32_t status = open_lot(&lot, book, book_len);
+    if (status == 0)
+        status = find_staged(&lot, &plan);
+    if (status == 0 && row_len < 2 * 3 * MOST_STAGES)
+        status = 11;
+    if (status != 0)
+        return status;
+    *letter = (uint8_t)lot.letter;
+    *stages = (uint8_t)plan.stages;
+    for (unsigned i = 0; i < MOST_STAGES; i++) {
+        put_number(row, i, plan.size[i]);
+        put_number(row, MOST_STAGES + i, plan.ac[i]);
+        put_number(row, 2 * MOST_STAGES + i, plan.re[i]);
+    }
+    return 0;
+}
+
+uint32_t ref_sequential_plan(uint32_t size, uint32_t level, uint32_t column, uint32_t severity, const uint8_t *book,
+                             size_t book_len, uint8_t *letter, uint16_t *ha, uint16_t *hr, uint16_t *g, uint16_t *nt,
+                             uint16_t *at) {
+    struct lot lot = {.size = size, .level = level, .column = column, .severity = severity};
+    struct sequential_plan plan;
+    uint32_t status = open_lot(&lot, book, book_len);
+    if (status == 0)
+        status = find_sequential(&lot, &plan);
+    if (status != 0)
+        return status;
+    *letter = (uint8_t)lot.letter;
+    *ha = (uint16_t)plan.ha;
+    *hr = (uint16_t)plan.hr;
+    *g = (uint16_t)plan.g;
+    *nt = (uint16_t)plan.nt;
+    *at = (uint16_t)plan.at;
+    return 0;
+}
+
+uint32_t ref_variables_plan(uint32_t size, uint32_t level, uint32_t column, uint32_t severity, const uint8_t *book,
+                            size_t book_len, uint8_t *letter, uint16_t *n, uint16_t *k) {
+    struct lot lot = {.size = size, .level = level, .column = column, .severity = severity};
+    struct variables_plan plan;
+    uint32_t status = open_lot(&lot, book, book_len);
+    if (status == 0)
+        status = find_variables(&lot, &plan);
+    if (status != 0)
+        return status;
+    *letter = (uint8_t)lot.letter;
+    *n = (uint16_t)plan.n;
+    *k = (uint16_t)plan.k;
+    return 0;
+}
+
+/* ---- the entries: verdicts */
 
 static uint32_t answer(uint32_t status, const struct verdict *verdict, uint8_t *accepted, uint16_t *used) {
     if (status == 0) {
@@ -694,6 +781,8 @@ uint32_t ref_variables_lower(uint32_t size, uint32_t level, uint32_t column, uin
     return variables(lot, book, book_len, readings, readings_len, limit, -1, accepted, used);
 }
 
+/* ---- the entries: the record */
+
 uint32_t ref_next(uint8_t *record, size_t record_len, uint32_t event) {
     struct record r;
     if (!read_record(&r, record, record_len) || event > CORRECTIVE)
@@ -711,14 +800,16 @@ static uint32_t open_close(struct record *r, const uint8_t *record, size_t recor
     return open_lot(lot, book, book_len);
 }
 
-static void close_lot(uint8_t *record, struct record *r, uint32_t resubmitted, unsigned event) {
-    step(r, resubmitted != 0 ? RESUBMITTED : event);
+/* Moves the record by what the lot is to it, and tells that as a history byte. */
+static void close_lot(uint8_t *record, struct record *r, uint32_t resubmitted, unsigned event, uint8_t *byte) {
+    *byte = (uint8_t)(resubmitted != 0 ? RESUBMITTED : event);
+    step(r, *byte);
     memcpy(record, r, sizeof *r);
 }
 
 uint32_t ref_close_single(uint8_t *record, size_t record_len, uint32_t resubmitted, uint32_t size, uint32_t level,
                           uint32_t column, const uint8_t *book, size_t book_len, const uint8_t *sample,
-                          size_t sample_len, uint8_t *accepted, uint16_t *used) {
+                          size_t sample_len, uint8_t *accepted, uint16_t *used, uint8_t *byte) {
     struct lot lot = {.size = size, .level = level, .column = column};
     struct record r;
     struct single_plan plan;
@@ -727,13 +818,13 @@ uint32_t ref_close_single(uint8_t *record, size_t record_len, uint32_t resubmitt
     if (status == 0)
         status = judge_single(&lot, sample, sample_len, &plan, &verdict);
     if (status == 0)
-        close_lot(record, &r, resubmitted, single_event(&lot, &plan, &verdict));
+        close_lot(record, &r, resubmitted, single_event(&lot, &plan, &verdict), byte);
     return answer(status, &verdict, accepted, used);
 }
 
 uint32_t ref_close_staged(uint8_t *record, size_t record_len, uint32_t resubmitted, uint32_t size, uint32_t level,
                           uint32_t column, const uint8_t *book, size_t book_len, const uint8_t *sample,
-                          size_t sample_len, uint8_t *accepted, uint16_t *used) {
+                          size_t sample_len, uint8_t *accepted, uint16_t *used, uint8_t *byte) {
     struct lot lot = {.size = size, .level = level, .column = column};
     struct record r;
     struct verdict verdict;
@@ -741,148 +832,62 @@ uint32_t ref_close_staged(uint8_t *record, size_t record_len, uint32_t resubmitt
     if (status == 0)
         status = judge_staged(&lot, sample, sample_len, &verdict);
     if (status == 0)
-        close_lot(record, &r, resubmitted, staged_event(&verdict));
+        close_lot(record, &r, resubmitted, staged_event(&lot, &verdict), byte);
     return answer(status, &verdict, accepted, used);
 }
+
+uint32_t ref_close_total(uint8_t *record, size_t record_len, uint32_t resubmitted, uint32_t size, uint32_t level,
+                         uint32_t column, uint32_t total, uint8_t *letter, uint16_t *n, uint16_t *ac,
+                         uint8_t *accepted) {
+    struct lot lot = {.size = size, .level = level, .column = column};
+    struct record r;
+    struct single_plan plan;
+    struct verdict verdict;
+    uint8_t byte;
+    lot.severity = read_record(&r, record, record_len) ? r.severity : STOPPED + 1;
+    uint32_t status = check_lot(&lot);
+    if (status == 0)
+        status = lot.severity == REDUCED ? 6 : find_single(&lot, &plan);
+    if (status == 0 && column <= ITEMS_COLUMN && total > plan.n)
+        status = 8;
+    if (status != 0)
+        return status;
+    verdict = (struct verdict){total <= plan.ac, plan.n, total, 1};
+    close_lot(record, &r, resubmitted, single_event(&lot, &plan, &verdict), &byte);
+    *letter = (uint8_t)plan.letter;
+    *n = (uint16_t)plan.n;
+    *ac = (uint16_t)plan.ac;
+    *accepted = (uint8_t)verdict.accepted;
+    return 0;
+}
+
+/* ---- the entries: a history, listed by a record that is moved by each byte */
+
+/* The status of the first bad byte, or 0; out, where it is lent, gets the severity after each byte. */
+static uint64_t walk(const uint8_t *history, size_t len, uint8_t *out) {
+    struct record r = {0};
+    for (size_t i = 0; i < len; i++) {
+        unsigned number = history[i] > CORRECTIVE ? 1 : step(&r, history[i]);
+        if (number != 0)
+            return number | (i < MOST_PLACE ? i : MOST_PLACE) << 8;
+        if (out != NULL)
+            out[i] = r.severity;
+    }
+    return 0;
+}
+
+/* A refusal writes nothing, so the whole history is read before the first severity is written. */
+uint64_t ref_list(const uint8_t *history, size_t len, uint8_t *severities, size_t room) {
+    uint64_t status = walk(history, len, NULL);
+    if (status != 0)
+        return status;
+    return room < len ? 11 : walk(history, len, severities);
+}
+
+/* ---- the entries: the book */
 
 uint32_t ref_check_book(const uint8_t *book, size_t book_len) {
     struct book opened;
     size_t fault = open_book(&opened, book, book_len);
     return fault == SOUND ? 0 : refuse(12, fault);
-}
-
-/* ---- the written reading of a history. No record: each figure is counted back from the end of the stay. */
-
-struct stay {
-    unsigned severity;
-    size_t start;
-};
-
-static bool is_original(uint8_t byte) {
-    return byte <= NOT_ACCEPTED;
-}
-
-/* The last five original lots of the stay as bits, the newest in bit 0, 1 for one not accepted. */
-static unsigned last_five(const uint8_t *history, size_t start, size_t end) {
-    unsigned bits = 0, lots = 0;
-    while (end > start && lots < 5) {
-        uint8_t byte = history[--end];
-        if (is_original(byte))
-            bits |= (unsigned)(byte == NOT_ACCEPTED) << lots++;
-    }
-    return bits;
-}
-
-/* The accepted lots of the stay after the last one not accepted. */
-static unsigned accepted_in_a_row(const uint8_t *history, size_t start, size_t end) {
-    unsigned lots = 0;
-    while (end > start && history[end - 1] != NOT_ACCEPTED)
-        lots += is_original(history[--end]);
-    return lots;
-}
-
-static unsigned not_accepted_in(const uint8_t *history, size_t start, size_t end) {
-    unsigned lots = 0;
-    while (end > start)
-        lots += history[--end] == NOT_ACCEPTED;
-    return lots;
-}
-
-/* The points of the stay after its last score 0, cut to 30: once there, no earlier lot counts. */
-static unsigned points_in(const uint8_t *history, size_t start, size_t end) {
-    unsigned points = 0;
-    while (end > start && points < 30) {
-        uint8_t byte = history[--end];
-        if (byte == SCORE_0 || byte == NOT_ACCEPTED)
-            break;
-        points += byte == ADD_3 ? 3 : byte == ADD_2 ? 2 : 0;
-    }
-    return points > 30 ? 30 : points;
-}
-
-/* As last ordered, else no, as at the start. */
-static bool as_ordered(const uint8_t *history, size_t end, uint8_t yes, uint8_t no) {
-    while (end > 0) {
-        uint8_t byte = history[--end];
-        if (byte == yes || byte == no)
-            return byte == yes;
-    }
-    return false;
-}
-
-static unsigned refused_byte(unsigned severity, uint8_t byte) {
-    if (byte > CORRECTIVE)
-        return 1;
-    if (byte <= RESUBMITTED && severity == STOPPED)
-        return 5;
-    return byte == CORRECTIVE && severity != STOPPED ? 10 : 0;
-}
-
-/* The severity after the byte before end, which is the last of the stay. */
-static unsigned severity_after(const uint8_t *history, struct stay stay, size_t end) {
-    uint8_t byte = history[end - 1];
-    bool ends_reduced = byte == NOT_ACCEPTED || byte == NOT_STEADY || byte == WITHDRAWN;
-    switch (stay.severity) {
-    case NORMAL:
-        if (byte == NOT_ACCEPTED && ones(last_five(history, stay.start, end)) >= 2)
-            return TIGHTENED;
-        if (byte != RESUBMITTED && points_in(history, stay.start, end) == 30 &&
-            as_ordered(history, end, STEADY, NOT_STEADY) && as_ordered(history, end, PERMISSION, WITHDRAWN))
-            return REDUCED;
-        return NORMAL;
-    case TIGHTENED:
-        if (accepted_in_a_row(history, stay.start, end) == 5)
-            return NORMAL;
-        return not_accepted_in(history, stay.start, end) == 5 ? STOPPED : TIGHTENED;
-    case REDUCED:
-        return ends_reduced ? NORMAL : REDUCED;
-    default:
-        return byte == CORRECTIVE ? TIGHTENED : STOPPED;
-    }
-}
-
-/* Reads the whole history from nothing; out, where it is lent, gets the severity after each byte. */
-static unsigned read_stays(const uint8_t *history, size_t len, struct stay *stay, uint8_t *out, size_t *place) {
-    *stay = (struct stay){NORMAL, 0};
-    for (size_t i = 0; i < len; i++) {
-        unsigned number = refused_byte(stay->severity, history[i]);
-        if (number != 0) {
-            *place = i;
-            return number;
-        }
-        unsigned severity = severity_after(history, *stay, i + 1);
-        if (severity != stay->severity)
-            *stay = (struct stay){severity, i + 1};
-        if (out != NULL)
-            out[i] = (uint8_t)severity;
-    }
-    return 0;
-}
-
-unsigned ref_list_severities(const uint8_t *history, size_t len, uint8_t *out, size_t room, size_t *place) {
-    struct stay stay;
-    unsigned number = read_stays(history, len, &stay, NULL, place);
-    if (number != 0)
-        return number;
-    if (room < len) {
-        *place = 0;
-        return 11;
-    }
-    return read_stays(history, len, &stay, out, place);
-}
-
-unsigned ref_read_history(const uint8_t *history, size_t len, uint8_t record[7], size_t *place) {
-    struct stay stay;
-    unsigned number = read_stays(history, len, &stay, NULL, place);
-    if (number != 0)
-        return number;
-    bool normal = stay.severity == NORMAL, tightened = stay.severity == TIGHTENED;
-    record[0] = (uint8_t)stay.severity;
-    record[1] = normal ? (uint8_t)points_in(history, stay.start, len) : 0;
-    record[2] = tightened ? (uint8_t)accepted_in_a_row(history, stay.start, len) : 0;
-    record[3] = tightened ? (uint8_t)not_accepted_in(history, stay.start, len) : 0;
-    record[4] = normal ? (uint8_t)last_five(history, stay.start, len) : 0;
-    record[5] = as_ordered(history, len, STEADY, NOT_STEADY);
-    record[6] = as_ordered(history, len, PERMISSION, WITHDRAWN);
-    return 0;
 }

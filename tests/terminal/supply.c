@@ -5,7 +5,6 @@
 #include "reference.h"
 
 #include <stdio.h>
-#include <stdlib.h>
 #include <string.h>
 
 enum { NOT_ACCEPTED = 3, RESUBMITTED = 4, CORRECTIVE = 9, STOPPED = 3, SEVERITIES = 4 };
@@ -30,14 +29,14 @@ static unsigned sample_total(void) {
     return total;
 }
 
-/* The history byte of an accepted original lot. Outside normal the three are alike. */
+/* The history byte of an accepted original lot. Outside normal no points are told. */
 static uint8_t accepted_byte(void) {
     uint8_t letter;
     uint16_t n, ac;
+    if (call.record[0] != 0)
+        return 2;
     if (call.function == CLOSE_STAGED)
         return call.first_stage == answer.used ? 0 : 2;
-    if (call.record[0] != 0)
-        return (uint8_t)below(3);
     ref_plan(call.size, call.level, call.column, 0, call.book, call.book_len, &letter, &n, &ac);
     if (ac < 2)
         return 1;
@@ -69,7 +68,7 @@ static uint32_t draw_event(void) {
 }
 
 /* Closes a lot, or moves the record by an order or by a lot that was judged elsewhere; writes the history byte. */
-static uint32_t next_event(const struct phase *phase, uint8_t *byte) {
+static uint64_t next_event(const struct phase *phase, uint8_t *byte) {
     if (one_in(call.record[0] == STOPPED ? 2 : 12)) {
         call.function = NEXT;
         call.event = draw_event();
@@ -78,50 +77,51 @@ static uint32_t next_event(const struct phase *phase, uint8_t *byte) {
     }
     call.function = one_in(phase->staged_in) ? CLOSE_STAGED : CLOSE_SINGLE;
     draw_next_lot(&call, !one_in(phase->bad_in));
-    uint32_t status = run_both(&call, &answer);
-    if (status == 0)
-        *byte = lot_byte();
+    uint64_t status = run_both(&call, &answer);
+    if (status == 0 && answer.byte != lot_byte())
+        report("the history byte is not what the lot is", &call);
+    *byte = answer.byte;
     return status;
 }
 
 static void hold_to_history(const uint8_t *history, size_t len) {
-    uint8_t record[7];
-    size_t place;
-    if (ref_read_history(history, len, record, &place) != 0)
+    uint8_t record[RECORD];
+    if (ref_read_record(history, len, record) != 0)
         report("the written reading refuses what was answered", &call);
-    else if (memcmp(record, answer.record, 7) != 0)
+    else if (memcmp(record, answer.record, RECORD) != 0)
         report("the record is not that of the written reading of the whole history", &call);
 }
 
 /* The written reading refuses the same byte for the same reason. A lot that is refused is any lot. */
-static void hold_refusal(uint8_t *history, size_t len, uint32_t status) {
-    uint8_t record[7];
-    size_t place = 0;
+static void hold_refusal(uint8_t *history, size_t len, uint64_t status) {
+    uint8_t record[RECORD];
     history[len] = (uint8_t)(call.function == NEXT ? call.event : below(5));
     if (status == 1 || status == 5 || status == 10)
-        if (ref_read_history(history, len + 1, record, &place) != status || place != len)
+        if (ref_read_record(history, len + 1, record) != (status | (uint64_t)len << 8))
             report("the written reading does not refuse what was refused", &call);
 }
 
-/* The list of the whole history at once; a buffer that is one short gets nothing. */
-static void hold_list(const uint8_t *history, const uint8_t *severities, size_t len, uint8_t *list) {
-    size_t place;
-    list[0] = 99;
-    if (ref_list_severities(history, len, list, len - 1, &place) != 11 || list[0] != 99)
-        report("the list is written to a buffer that is too short", &call);
-    if (ref_list_severities(history, len, list, len, &place) != 0 || memcmp(list, severities, len) != 0)
-        report("the severities are not those of the list", &call);
+/* The list of the whole history at once has the severities of the record after each byte. */
+static void hold_list(const uint8_t *history, const uint8_t *severities, size_t len) {
+    call.function = LIST;
+    call.sample_len = call.out_len = len;
+    memcpy(call.sample, history, len);
+    if (run_both(&call, &answer) != 0 || memcmp(last_out(), severities, len) != 0)
+        report("the severities of the record are not those of the list", &call);
+    call.out_len--;
+    if (run_both(&call, &answer) != 11)
+        report("a list is too long for a buffer that is one short", &call);
 }
 
-static void long_supply(uint8_t *history, uint8_t *severities, uint8_t *list, unsigned events) {
+static void long_supply(uint8_t *history, uint8_t *severities, unsigned events) {
     size_t len = 0;
     struct phase phase = {0, 1, 1};
     memset(&call, 0, sizeof call);
-    call.record_len = 7;
+    call.record_len = RECORD;
     for (unsigned i = 0; i < events; i++) {
         if (phase.left-- == 0)
             phase = draw_phase();
-        uint32_t status = next_event(&phase, &history[len]);
+        uint64_t status = next_event(&phase, &history[len]);
         if (status != 0) {
             hold_refusal(history, len, status);
             continue;
@@ -129,9 +129,9 @@ static void long_supply(uint8_t *history, uint8_t *severities, uint8_t *list, un
         severities[len++] = answer.record[0];
         hold_to_history(history, len);
         changes[call.record[0] % SEVERITIES][answer.record[0] % SEVERITIES]++;
-        memcpy(call.record, answer.record, 7);
+        memcpy(call.record, answer.record, RECORD);
     }
-    hold_list(history, severities, len, list);
+    hold_list(history, severities, len);
     bytes += len;
 }
 
@@ -150,11 +150,8 @@ static bool summary_of_changes(void) {
 }
 
 bool long_supplies(unsigned supplies, unsigned events) {
-    uint8_t *room = malloc(3 * (size_t)(events + 1));
-    if (room == NULL)
-        return false;
-    for (unsigned i = 0; i < supplies; i++)
-        long_supply(room, room + events + 1, room + 2 * (size_t)(events + 1), events);
-    free(room);
+    static uint8_t history[SAMPLE_ROOM], severities[SAMPLE_ROOM];
+    for (unsigned i = 0; i < supplies && events < SAMPLE_ROOM; i++)
+        long_supply(history, severities, events);
     return summary_of_changes();
 }

@@ -1,11 +1,19 @@
-/* lotlog in plain C: document 01's program with getline and printf, on the independent program's plans and record. */
+/*
+ * lotlog in plain C: document 01's program with getline and printf, on the independent reading's plans and record
+ * (tests/terminal/reference.c). tests/lotlog-random compares the proved program with it, and benchmarks/run times both.
+ */
 #define _GNU_SOURCE
-#include "../tests/terminal/reference.c"
+#include "../terminal/reference.h"
 
+#include <stdbool.h>
 #include <stdio.h>
 #include <stdlib.h>
+#include <string.h>
 
-enum { MOST_FIELDS = 5 };
+enum { STEADY = 5, NOT_STEADY, PERMISSION, WITHDRAWN, CORRECTIVE };
+enum { RECORD_BYTES = 7, SEVERITY = 0, SCORE = 1, MOST_FIELDS = 5 };
+
+static uint8_t record[RECORD_BYTES];
 
 /* A decimal number without leading zeros, at most 4,294,967,295, that fills the field. */
 static bool read_number(const char *field, size_t len, uint32_t *number) {
@@ -46,54 +54,44 @@ static unsigned order_event(char letter, int n, const uint32_t *numbers) {
     return CORRECTIVE + 1;
 }
 
-static uint32_t close_total(struct record *r, bool resubmitted, struct lot *lot, uint32_t total,
-                            struct single_plan *plan, struct verdict *verdict) {
-    uint32_t status = check_lot(lot);
-    if (status != 0)
-        return status;
-    if (lot->severity == REDUCED)
-        return 6;
-    find_single(lot, plan);
-    if (lot->column <= ITEMS_COLUMN && total > plan->n)
-        return 8;
-    *verdict = (struct verdict){total <= plan->ac, plan->n, total, 1};
-    return step(r, resubmitted ? RESUBMITTED : single_event(lot, plan, verdict));
+static void print_refusal(unsigned long no, uint32_t number) {
+    printf("%lu refused %u\n", no, (unsigned)number);
 }
 
-static void log_lot(unsigned long no, struct record *r, char letter, const uint32_t *numbers) {
-    struct lot lot = {.size = numbers[0], .level = numbers[1], .column = numbers[2], .severity = r->severity};
-    struct single_plan plan;
-    struct verdict verdict;
-    uint32_t number = close_total(r, letter == 'R', &lot, numbers[3], &plan, &verdict);
+static void log_lot(unsigned long no, bool resubmitted, const uint32_t *numbers) {
+    uint8_t severity = record[SEVERITY], letter, accepted;
+    uint16_t n, ac;
+    uint32_t number = ref_close_total(record, sizeof record, resubmitted, numbers[0], numbers[1], numbers[2],
+                                      numbers[3], &letter, &n, &ac, &accepted);
     if (number != 0)
-        printf("%lu refused %u\n", no, (unsigned)number);
+        print_refusal(no, number);
     else
-        printf("%lu %c %c %u %u %s %c %u\n", no, "NTR"[lot.severity], "ABCDEFGHJKLMNPQRS"[plan.letter], plan.n, plan.ac,
-               verdict.accepted ? "accept" : "reject", "NTRX"[r->severity], r -> score);
+        printf("%lu %c %c %u %u %s %c %u\n", no, "NTR"[severity], "ABCDEFGHJKLMNPQRS"[letter], n, ac,
+               accepted ? "accept" : "reject", "NTRX"[record[SEVERITY]], record[SCORE]);
 }
 
-static void log_order(unsigned long no, struct record *r, unsigned event) {
-    uint32_t number = event > CORRECTIVE ? 1 : step(r, event);
+/* An event over CORRECTIVE is refused as of no known form. */
+static void log_order(unsigned long no, unsigned event) {
+    uint32_t number = ref_next(record, sizeof record, event);
     if (number != 0)
-        printf("%lu refused %u\n", no, (unsigned)number);
+        print_refusal(no, number);
     else
-        printf("%lu order %c %u\n", no, "NTRX"[r->severity], r -> score);
+        printf("%lu order %c %u\n", no, "NTRX"[record[SEVERITY]], record[SCORE]);
 }
 
 int main(void) {
     char *line = NULL;
     size_t room = 0;
     ssize_t got;
-    struct record r = {0};
     uint32_t numbers[MOST_FIELDS];
     puts("no sev let n ac verdict next score");
     for (unsigned long no = 1; (got = getline(&line, &room, stdin)) > 0; no++) {
         size_t len = (size_t)got - (line[got - 1] == '\n');
         int n = len > 0 ? read_numbers(line, len, numbers) : -1;
         if (n == 4 && (line[0] == 'L' || line[0] == 'R'))
-            log_lot(no, &r, line[0], numbers);
+            log_lot(no, line[0] == 'R', numbers);
         else
-            log_order(no, &r, n < 0 ? CORRECTIVE + 1 : order_event(line[0], n, numbers));
+            log_order(no, n < 0 ? CORRECTIVE + 1 : order_event(line[0], n, numbers));
     }
     free(line);
     return fflush(stdout) != 0;
