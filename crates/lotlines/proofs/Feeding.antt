@@ -16,10 +16,10 @@ use Rattle.rules.proofs.Bounded.{by-le}
 use Rattle.rules.proofs.Feeding.{going, ends, goes, fed-ends, fed-goes-on}
 use Rattle.severity.specs.declared.Record.{Record}
 use Rattle.severity.specs.Paper.{recordPaper}
+use Rattle.lottexts.specs.Printing.{Puts}
 use Rattle.lotlines.specs.declared.Logged.{Logged}
 use Rattle.lotlines.specs.declared.State.{State}
 use Rattle.lotlines.specs.declared.Gathered.{Gathered}
-use Rattle.lotlines.specs.Printing.{Puts}
 use Rattle.lotlines.specs.Paper.{Logs, begunOf, heldOf, heldPaper, lengthAfter, Gathers, Feeds}
 use Rattle.lotlines.proofs.Keeping.{kept-begun}
 

@@ -8,10 +8,9 @@ use borrow.Author.Tests.{le-leb, lt-leb}
 use Rattle.rules.specs.History.{Work}
 use Rattle.rules.specs.Refusals.{unknownForm}
 use Rattle.rules.specs.Entries.{closeTotal, next}
-use Rattle.rules.specs.Log.{refusedLine, unknownLine, lineOf, splitAt, space, lotText, orderText, loggedLot}
-use Rattle.rules.specs.Log.{loggedOrder, loggedAs}
+use Rattle.rules.specs.Log.{refusedLine, unknownLine, loggedLot, loggedOrder, loggedAs}
 use Rattle.rules.specs.Feeding.{longestLine, ended}
-use Rattle.plans.specs.Paper.{beside, zeroPlan}
+use Rattle.plans.specs.Paper.{planPaper, beside, zeroPlan}
 use Rattle.severity.specs.declared.Record.{Record}
 use Rattle.severity.specs.declared.Stepped.{Stepped}
 use Rattle.severity.specs.declared.Stepped.the-variants as stepped
@@ -22,11 +21,12 @@ use Rattle.closing.specs.declared.ClosedAnswer.the-variants as closes
 use Rattle.closing.specs.declared.SingleClosed.{SingleClosed}
 use Rattle.closing.specs.Paper.{offeredPaper, closedBeside, planClosed}
 use Rattle.closing.proofs.Closing.{answer-of}
+use Rattle.lotforms.specs.declared.Line.{Line}
+use Rattle.lotforms.specs.declared.Line.the-variants.{Lot, Order, Unknown}
+use Rattle.lotforms.specs.Reading.{linePaper, formOf}
+use Rattle.lotforms.proofs.OneResult.{form-any}
+use Rattle.lottexts.specs.Printing.{Puts, orderPrinted, lotPrinted}
 use Rattle.lotlines.specs.declared.Logged.{Logged}
-use Rattle.lotlines.specs.declared.lines.Line.{Line}
-use Rattle.lotlines.specs.declared.lines.Line.the-variants.{Lot, Order, Unknown}
-use Rattle.lotlines.specs.Reading.{linePaper}
-use Rattle.lotlines.specs.Printing.{Puts, closedPlan}
 use Rattle.lotlines.specs.Paper.{Logs, heldOf}
 
 module _ (supply : Record) (line : ℕ) {out last : List ℕ} {r : ℕ} where
@@ -37,7 +37,10 @@ module _ (supply : Record) (line : ℕ) {out last : List ℕ} {r : ℕ} where
   lot-refused closed e p = rw e (record { held = refl; shown = p })
 
   pub lot-given : (closed : SingleClosed) {c : Closed} → closed .answer ≡ closes.Given c
-      → Puts 0 (lotText line (recordPaper supply) (closedPlan (closed .plan) c)) out last r
+      → Puts 0
+      (lotPrinted line (supply .severity) (planPaper (closed .plan)) (c .verdict .accepted)
+      (c .«record_after» .severity) (c .«record_after» .score))
+      out last r
       → Logs (loggedLot line (recordPaper supply) (closedBeside closed .answer)) out last
       (record { supply = c .«record_after»; written = r })
   lot-given closed e p = rw e (record { held = refl; shown = p })
@@ -49,7 +52,7 @@ module _ (supply : Record) (line : ℕ) {out last : List ℕ} {r : ℕ} where
   order-refused e p = rw e (record { held = refl; shown = p })
 
   pub order-given : {answer : Stepped} {after : Record} → answer ≡ stepped.Given after
-      → Puts 0 (orderText line (recordPaper after)) out last r
+      → Puts 0 (orderPrinted line (after .severity) (after .score)) out last r
       → Logs (loggedOrder line (recordPaper supply) (steppedPaper answer)) out last
       (record { supply = after; written = r })
   order-given e p = rw e (record { held = refl; shown = p })
@@ -61,12 +64,13 @@ module _ (supply : Record) (line : ℕ) {out last : List ℕ} {r : ℕ} where
 
 -- what a line says, and the unfinished line as it is kept
 module _ (w : Work) (supply : Record) (line : ℕ) {out last : List ℕ} {r : Logged} where
-  pub lot-said : (closed : SingleClosed) {said : Line} {lot : Offered} {total : ℕ} → said ≡ Lot lot total
+  pub lot-said : (closed : SingleClosed) {said : Line} (lot : Offered) {total : ℕ}
+      → said ≡ Lot (lot .again) (lot .size) (lot .level) (lot .column) total
       → closedBeside closed ≡ beside zeroPlan planClosed (closeTotal (recordPaper supply) (offeredPaper lot) total)
       → Logs (loggedLot line (recordPaper supply) (closedBeside closed .answer)) out last r
       → Logs (loggedAs w line (recordPaper supply) (linePaper said)) out last r
   unfolding loggedAs
-  lot-said closed {lot = lot} {total} e f l =
+  lot-said closed lot {total} e f l =
       let g : closedBeside closed .answer ≡ closeTotal (recordPaper supply) (offeredPaper lot) total
       = ap (λ b. b .answer) f ∙ answer-of zeroPlan planClosed
       (closeTotal (recordPaper supply) (offeredPaper lot) total) in
@@ -85,7 +89,8 @@ module _ (w : Work) (supply : Record) (line : ℕ) {out last : List ℕ} {r : Lo
   long-ended count bytes h l = rw (lt-leb count longestLine h) l
 
   pub line-ended : (count : ℕ) (bytes : List ℕ) (said : Line) → count ≤ longestLine
-      → linePaper said ≡ lineOf w (splitAt space (take count bytes))
+      → linePaper said ≡ formOf (w .resubmission) (take count bytes)
       → Logs (loggedAs w line (recordPaper supply) (linePaper said)) out last r
       → Logs (ended w (heldOf supply line count bytes)) out last r
-  line-ended count bytes said h e l = rw (le-leb count longestLine h) (rw e at l)
+  line-ended count bytes said h e l =
+      rw (le-leb count longestLine h) (rw (e ∙ form-any w (take count bytes)) at l)

@@ -1,4 +1,5 @@
--- Each promise of a public function admits one result, and one state of the memory that is lent.
+-- Each promise of a public function admits one result, and one state of the memory that is lent (of header and finish:
+-- `puts-one`).
 -- Assumes nothing.
 use Prim.Native.Nat.{ℕ}
 use mathlib.Core.Path.{_≡_, sym, ap, _∙_}
@@ -7,15 +8,10 @@ use Rattle.rules.specs.History.{Work}
 use Rattle.rules.specs.Feeding.{Held}
 use Rattle.severity.specs.declared.Record.{Record}
 use Rattle.severity.proofs.OneResult.{record-one}
+use Rattle.lottexts.proofs.OneResult.{puts-one}
 use Rattle.lotlines.specs.declared.State.{State}
 use Rattle.lotlines.specs.declared.Fed.{Fed}
-use Rattle.lotlines.specs.Printing.{Puts}
 use Rattle.lotlines.specs.Paper.{heldPaper, Starts, Feeds}
-
--- of header and finish
-pub puts-one : {at r q : ℕ} {text out last end : List ℕ} → Puts at text out last r → Puts at text out end q
-    → (last ≡ end) × (r ≡ q)
-puts-one a b = (a .stored ∙ sym (b .stored), a .next ∙ sym (b .next))
 
 state-one : (a b : State) → heldPaper a ≡ heldPaper b → a .length ≡ b .length → a .bytes ≡ b .bytes → a ≡ b
 state-one a b h l k =

@@ -11,11 +11,11 @@ use Rattle.rules.specs.Log.{newline}
 use Rattle.rules.specs.Feeding.{Begun, soFar, tooLong, longestLine, Held, holding, starting, fed, upTo}
 use Rattle.severity.specs.declared.Record.{Record}
 use Rattle.severity.specs.Paper.{recordPaper}
+use Rattle.lottexts.specs.Printing.{Puts}
 use Rattle.lotlines.specs.declared.Logged.{Logged}
 use Rattle.lotlines.specs.declared.State.{State}
 use Rattle.lotlines.specs.declared.Fed.{Fed}
 use Rattle.lotlines.specs.declared.Gathered.{Gathered}
-use Rattle.lotlines.specs.Printing.{Puts}
 
 -- a line's record and text, the text in the lent array
 pub record Logs (l : log.Logged) (out last : List ℕ) (r : Logged) : Type 0 where

@@ -5,22 +5,19 @@ ghost use Rattle.rules.specs.Log.{lineAfter, loggedLot, loggedOrder, loggedAs};
 ghost use Rattle.rules.specs.Feeding.{longestLine, ended, finished};
 ghost use Rattle.severity.specs.Paper.{workPaper, recordPaper, steppedPaper};
 ghost use Rattle.closing.specs.Paper.{closedBeside};
-ghost use Rattle.lotlines.specs.Reading.{linePaper};
-ghost use Rattle.lotlines.specs.Printing.{Puts};
+ghost use Rattle.lotforms.specs.Reading.{linePaper};
+ghost use Rattle.lottexts.specs.Printing.{Puts};
 ghost use Rattle.lotlines.specs.Paper.{Logs, heldOf, heldPaper, Starts, lengthWith, bytesWith, Gathers, Feeds};
-
-mod lines;
-mod texts;
-
 use closing::ClosedAnswer;
+use closing::Offered;
 use closing::SingleClosed;
-use lines::Line;
+use lotforms::Line;
+pub use lottexts::LINE;
+pub use lottexts::header;
 use plans::UNKNOWN_FORM;
 use severity::Record;
 use severity::Stepped;
 use severity::Work;
-pub use texts::LINE;
-pub use texts::header;
 
 // The most bytes of a line of the input that has a known form.
 pub const LONGEST: usize = 45;
@@ -42,12 +39,21 @@ fn log_lot(supply: Record, line: u64, closed: SingleClosed, out: &mut [u8; LINE]
     let plan = closed.plan;
     match answer {
         ClosedAnswer::Refused(number, _) => {
-            let written = texts::put_refused(out, line, number);
+            let written = lottexts::put_refused(out, line, number);
             Logged { supply, written }
         }
         ClosedAnswer::Given(given) => {
+            let verdict = given.verdict;
             let after = given.record_after;
-            let written = texts::put_lot(out, line, supply, plan, given);
+            let written = lottexts::put_lot(
+                out,
+                line,
+                supply.severity,
+                plan,
+                verdict.accepted,
+                after.severity,
+                after.score,
+            );
             Logged {
                 supply: after,
                 written,
@@ -62,11 +68,11 @@ fn log_order(supply: Record, line: u64, answer: Stepped, out: &mut [u8; LINE]) -
 {
     match answer {
         Stepped::Refused(number, _) => {
-            let written = texts::put_refused(out, line, number);
+            let written = lottexts::put_refused(out, line, number);
             Logged { supply, written }
         }
         Stepped::Given(after) => {
-            let written = texts::put_order(out, line, after);
+            let written = lottexts::put_order(out, line, after.severity, after.score);
             Logged {
                 supply: after,
                 written,
@@ -80,7 +86,13 @@ fn log_as(work: Work, supply: Record, line: u64, said: Line, out: &mut [u8; LINE
         (now (out .entry)) (now (out .exit)) r ⌝ }
 {
     match said {
-        Line::Lot(lot, total) => {
+        Line::Lot(again, size, level, column, total) => {
+            let lot = Offered {
+                again,
+                size,
+                level,
+                column,
+            };
             let closed = closing::close_total(supply, lot, total);
             log_lot(supply, line, closed, out)
         }
@@ -89,7 +101,7 @@ fn log_as(work: Work, supply: Record, line: u64, said: Line, out: &mut [u8; LINE
             log_order(supply, line, answer, out)
         }
         Line::Unknown => {
-            let written = texts::put_refused(out, line, UNKNOWN_FORM);
+            let written = lottexts::put_refused(out, line, UNKNOWN_FORM);
             Logged { supply, written }
         }
     }
@@ -138,7 +150,7 @@ fn end_line(
     if LONGEST < count {
         return log_as(work, supply, line, Line::Unknown, out);
     }
-    let said = lines::line_of(work, &bytes[..count]);
+    let said = lotforms::line_of(work.resubmission, &bytes[..count]);
     log_as(work, supply, line, said, out)
 }
 

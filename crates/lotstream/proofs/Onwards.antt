@@ -15,7 +15,7 @@ use Rattle.rules.specs.Feeding.{saidIn}
 use Rattle.rules.proofs.Feeding.{any-calls, some-taken, taken-within}
 use Rattle.lotlines.specs.declared.State.{State}
 use Rattle.lotlines.specs.declared.Fed.{Fed}
-use Rattle.lotlines.specs.Printing.{Puts}
+use Rattle.lottexts.specs.Printing.{Puts}
 use Rattle.lotlines.specs.Paper.{Feeds}
 use Rattle.lotstream.specs.Turns.{singly, onwards, Logs}
 use Rattle.lotstream.specs.declared.Turn.{Turn}

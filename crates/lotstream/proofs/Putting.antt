@@ -6,7 +6,7 @@ use mathlib.Core.Path.{_≡_, ap, _∙_}
 use mathlib.Core.List.{List, _++_}
 use lib.ListN.{length, take, drop, drop-of-length-le, length-append}
 use lib.Seq.{sets, sets-eq, length-sets, length-take-le, take-at}
-use Rattle.lotlines.specs.Printing.{lineRoom, Puts}
+use Rattle.lottexts.specs.Printing.{lineRoom, Puts}
 use Rattle.lotstream.specs.Turns.{PutAfter}
 
 module _ {text out last : List ℕ} {r : ℕ} (p : Puts 0 text out last r) (e : length out ≡ lineRoom) where

@@ -11,7 +11,7 @@ use lib.Seq.{drop-nil}
 use Rattle.rules.specs.History.{ours}
 use Rattle.rules.specs.Feeding.{Held, finished, saidIn}
 use Rattle.lotlines.specs.declared.State.{State}
-use Rattle.lotlines.specs.Printing.{lineRoom}
+use Rattle.lottexts.specs.Printing.{lineRoom}
 use Rattle.lotlines.specs.Paper.{heldPaper}
 use Rattle.lotstream.specs.Turns.{Opened, singly, onwards, waits, left, toCome, Logs, LastPut, Written, brought, Got}
 use Rattle.lotstream.specs.Runs.{leastRoom, Scene, scene, Fits, writes, reads, unwritten, Turned, Ran, Running}

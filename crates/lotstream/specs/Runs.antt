@@ -5,7 +5,7 @@ use mathlib.Core.Bool.{true, false, cond}
 use mathlib.Core.List.{List, [], _∷_, _++_}
 use lib.ListN.{length, take}
 use Rattle.rules.specs.History.{ours}
-use Rattle.lotlines.specs.Printing.{lineRoom}
+use Rattle.lottexts.specs.Printing.{lineRoom}
 use Rattle.lotlines.specs.Paper.{heldPaper}
 use Rattle.lotstream.specs.Turns.{Opened, onwards, waits, left, brought}
 use Rattle.lotstream.specs.declared.Turn.{Turn}

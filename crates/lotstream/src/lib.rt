@@ -3,7 +3,7 @@
 ghost use Prim.Native.Nat.{_+_, _<_, _≤_};
 ghost use mathlib.Core.Path.{_≡_};
 ghost use lib.ListN.{length};
-ghost use Rattle.lotlines.specs.Printing.{lineRoom};
+ghost use Rattle.lottexts.specs.Printing.{lineRoom};
 ghost use Rattle.lotstream.specs.Turns.{PutAfter, Logs, Opened, Written, Taken, Got, LastPut};
 ghost use Rattle.lotstream.specs.Runs.{leastRoom, scene, Fits, Turned, Runs};
 use libc::STDIN_FILENO;

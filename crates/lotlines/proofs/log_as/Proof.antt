@@ -12,9 +12,8 @@ returns : tie.Need-returns
 returns c =
     let args = c .before .before .before .before .before .before .args in
     let first = c .before .before .before .before .said .given .1 in
-    lot-said (workPaper (args .work)) (args .supply) (args .line) (c .before .before .close-total .result) first
-    (c .before .before
-    .close-total .ensures) (c .log-lot .ensures)
+    lot-said (workPaper (args .work)) (args .supply) (args .line) (c .before .before .close-total .result) _ first
+    (c .before .before .close-total .ensures) (c .log-lot .ensures)
 
 returns-2 : tie.Need-returns-2
 returns-2 c =
