@@ -120,7 +120,8 @@ module _ {k : Kind} {key ws : List ℕ} where
               ∙ ap (λ (x : ℕ). orElse x (underFrom k key (n - (i + 1)) (at + size) ws)) (sym f);
         }
 
-    pub section-broken : {p : ℕ} → i < n → broken p ≡ here → ReadTo (section k ws) (sectionPlace k key ws) (Broken (at + p))
+    pub section-broken : {p : ℕ} → i < n → broken p ≡ here
+        → ReadTo (section k ws) (sectionPlace k key ws) (Broken (at + p))
     section-broken {p} h q =
         read-broken (sym (s .reads ∙ entries-broken k n i at (keyBetween k prev at ws) ws p h q))
 

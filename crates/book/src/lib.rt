@@ -179,8 +179,8 @@ pub enum Found {
     At(usize),
 }
 
-// The entry under a severity (but for reduced singles), a Table 1 letter and a column in the section of a kind: 12, then
-// 6 where none is.
+// The entry under a severity (but for reduced singles), a Table 1 letter and a column in the section of a kind: 12,
+// then 6 where none is.
 pub fn find(kind: usize, severity: u32, letter: u8, column: u32, book: &[u8]) -> Found
     ensures { λ r. ⌜ foundPaper r ≡ placeHeld kind severity letter column (now (book .entry)) ⌝ }
 {

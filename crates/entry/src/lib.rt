@@ -148,7 +148,8 @@ fn rises_after(kind: usize, before: &[u8], e: &[u8]) -> bool
 // Is the whole key of the entry there, and does it not rise over that of the entry before it?
 fn key_falls(kind: usize, before: &[u8], e: &[u8]) -> bool
     ensures { λ r. ⌜ r
-        ≡ keyFalls (kindAt kind) (keyOf (kindAt kind) (numbersOf (now (before .entry)))) (numbersOf (now (e .entry))) ⌝ }
+        ≡ keyFalls (kindAt kind) (keyOf (kindAt kind) (numbersOf (now (before .entry))))
+        (numbersOf (now (e .entry))) ⌝ }
 {
     if numbers::count(e) < key_len(kind) {
         return false;

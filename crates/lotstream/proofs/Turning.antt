@@ -13,7 +13,8 @@ use Rattle.rules.specs.Feeding.{Held, finished, saidIn}
 use Rattle.lotlines.specs.declared.State.{State}
 use Rattle.lottexts.specs.Printing.{lineRoom}
 use Rattle.lotlines.specs.Paper.{heldPaper}
-use Rattle.lotstream.specs.Turns.{Opened, singly, onwards, waits, left, toCome, Logs, LastPut, Written, brought, Got}
+use Rattle.lotstream.specs.Turns.{Opened, singly, onwards, waits, left, toCome, Logs, LastPut, Written}
+use Rattle.lotstream.specs.Turns.{brought, Got}
 use Rattle.lotstream.specs.Runs.{leastRoom, Scene, scene, Fits, writes, reads, unwritten, Turned, Ran, Running}
 use Rattle.lotstream.specs.Runs.{Runs}
 use Rattle.lotstream.specs.declared.Turn.{Turn}

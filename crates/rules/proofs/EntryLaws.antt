@@ -90,7 +90,8 @@ module _ {P : Type 0} (section : ℕ) (needed : List ℕ → ℕ) (planOf : List
   above-so e l (above d f h) = subst (λ (x : List ℕ). q .size < needed x) (found-one (sym f ∙ l)) h
 
   entry-reports : (f : Found) → lookedUp section q book ≡ f
-      → Reports 6 (Row 6 (NoPlan section needed q book) NoRow) (fromEntry f (λ e. unlessAbove (q .size) (needed e) (planOf e)))
+      → Reports 6 (Row 6 (NoPlan section needed q book) NoRow)
+      (fromEntry f (λ e. unlessAbove (q .size) (needed e) (planOf e)))
   entry-reports nothing l = stops 6 (no-entry l) (le-refl 6) (λ m w. absurd w)
   entry-reports (found e) l =
       check 6 (ltb (q .size) (needed e)) (λ t. above e l (ltb-true (q .size) (needed e) t))
@@ -224,7 +225,8 @@ module _ {P : Type 0} (r : Record) (o : Offered) (judged : Answer (Judged P Verd
       let t = lot-steps r o (counts j) (inspected j e) in
       (record { judged = j; event = eventFor o (counts j); recordAfter = t .0 }, rw (t .1))))
 
-  pub closing-given : (c : Closed P) → (onRecord r (andThen judged (closedWith r o counts)) ≡ given c) ↔ Closes r o judged counts c
+  pub closing-given : (c : Closed P)
+      → (onRecord r (andThen judged (closedWith r o counts)) ≡ given c) ↔ Closes r o judged counts c
   closing-given c = (so, λ k. rw (ap not (k .in-range), k .as-judged, ← k .stands, k .stepped))
     where
       so : onRecord r (andThen judged (closedWith r o counts)) ≡ given c → Closes r o judged counts c
@@ -250,7 +252,8 @@ module _ {P : Type 0} (r : Record) (o : Offered) (judged : Answer (Judged P Verd
 
   pub closing-book-given : (book : List ℕ) → ((j : Judged P Verdict) → judged ≡ given j → checkBook book ≡ sound)
       → (c : Closed P)
-      → (onSound (checkBook book) (onRecord r (andThen judged (closedWith r o counts))) ≡ given c) ↔ Closes r o judged counts c
+      → (onSound (checkBook book) (onRecord r (andThen judged (closedWith r o counts))) ≡ given c)
+      ↔ Closes r o judged counts c
   closing-book-given book judged-sound c = (
     λ g. closing-given c .0 (sound-given (checkBook book) _ c .0 g .1),
     λ k. sound-given (checkBook book) _ c .1 (judged-sound (c .judged) (k .as-judged), closing-given c .1 k),

@@ -120,7 +120,8 @@ order-stands (suc (suc zero)) stands st pe r h =
     unless stands st pe r _ _ (starts reduced st pe r) (starts normal st pe r)
 order-stands (suc (suc (suc s))) stands st pe r h = starts stopped st pe r
 
-given-stands : (st pe : Bool) (r t : Record) (a : Answer Record) → a ≡ given t → Stands st pe r a → CarriedOver st pe r t
+given-stands : (st pe : Bool) (r t : Record) (a : Answer Record) → a ≡ given t → Stands st pe r a
+    → CarriedOver st pe r t
 given-stands st pe r t (refused n p) q h = absurd (refused-given q)
 given-stands st pe r t (given u) q h = rw (← given-one q) h
 

@@ -64,7 +64,8 @@ module _ (column : ℕ) (sample : List ℕ) (plan : Plan) where
 
 -- Readings. 7 where there are not exactly the plan's n, 9 for a reading or the limit out of range.
 module _ (upper : Bool) (limit : ℤ) (bytes : List ℕ) (plan : VariablesPlan) where
-  out-so : (a b : Bool) → allInGauge (readingsOf bytes) ≡ a → inGauge limit ≡ b → (not a || not b) ≡ true → OutOfGauge limit bytes
+  out-so : (a b : Bool) → allInGauge (readingsOf bytes) ≡ a → inGauge limit ≡ b → (not a || not b) ≡ true
+      → OutOfGauge limit bytes
   out-so false b e f t = reading (out-means (readingsOf bytes) e)
   out-so true false e f t = the-limit f
   out-so true true e f t = absurd (false≢true t)
@@ -87,7 +88,8 @@ module _ (upper : Bool) (limit : ℤ) (bytes : List ℕ) (plan : VariablesPlan) 
   in-both true false e = absurd (false≢true (sym e))
   in-both false b e = absurd (false≢true (sym e))
 
-  pub readings-given : (v : Verdict) → (judgeReadings upper plan limit bytes ≡ given v) ↔ ReadingsJudged upper limit bytes plan v
+  pub readings-given : (v : Verdict) →
+      (judgeReadings upper plan limit bytes ≡ given v) ↔ ReadingsJudged upper limit bytes plan v
   unfolding judgeReadings
   readings-given v = (
     λ g.

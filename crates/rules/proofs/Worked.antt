@@ -158,7 +158,8 @@ edgeCases =
 
 -- The cases that are not starred, and edges beside them.
 pub edges : AllAsSaid edgeCases
-unfolding edgeCases planned staged fiveStages fromBelow acceptsReadings withinSpread margin spread numberBytes onTheLines verdictOf yesNo notShown tablePlan
+unfolding edgeCases planned staged fiveStages fromBelow acceptsReadings withinSpread margin spread numberBytes
+    onTheLines verdictOf yesNo notShown tablePlan
     letterOf rowOf rowFrom landing boxAt judgeStages stagedFrom stagesFrom stageDecides takeItems judgeSequence
     sequentialFrom itemDecides numbersOf screen shownOf allInGauge inGauge signedOf sumZ squaresZ
 edges = refl

@@ -46,7 +46,8 @@ pub record ItemsJudged (column : ℕ) (sample : List ℕ) (plan : Plan) (v : Ver
       }
       ≡ v
 
--- A staged or sequential sample: 8 for an illegal item that a walk meets; 7 where it meets none and there is no verdict.
+-- A staged or sequential sample: 8 for an illegal item that a walk meets; 7 where it meets none and there is no
+-- verdict.
 abbrev pub SampleRows : (Verdict → Type 0) → Type 0 → ℕ → Type 0
 SampleRows Ends Meeting = Row 7 ((Meeting → ⊥) × ((v : Verdict) → Ends v → ⊥)) (Row 8 Meeting NoRow)
 

@@ -1,4 +1,5 @@
--- How a closed lot counts, as document 01 says it: its points at normal, and what it counts elsewhere. Definitions only.
+-- How a closed lot counts, as document 01 says it: its points at normal, and what it counts elsewhere. Definitions
+-- only.
 use Prim.Native.Nat.{ℕ, _≤_, _<_}
 use mathlib.Core.Path.{_≡_}
 use mathlib.Core.Bool.{Bool, true, false}

@@ -1,5 +1,6 @@
 -- What the laws of demand 3 say of stays and of changes of severity: what stays, by what each severity is left, what
--- stands when reduced starts, what a history's stays are, and what a record in range is. Lots and events stand newest first. Definitions only.
+-- stands when reduced starts, what a history's stays are, and what a record in range is. Lots and events stand newest
+-- first. Definitions only.
 use Prim.Native.Nat.{ℕ, _≤_, _<_}
 use mathlib.Core.Path.{_≡_}
 use mathlib.Core.Bool.{Bool, true, false}

@@ -40,15 +40,23 @@ first-under-requires c κs = c .before .before .before .before .before .loop .in
 
 add-at : tie.Need-add-at Inv-loop μ-loop
 add-at c =
-    let s = now (c .before .before .before .before .before .before .before .before .before .before .before .args .part) in
+    let s = now
+    (c .before .before .before .before .before .before .before .before .before .before .before .args .part) in
     let l = c .before .before .before .before .before .before .loop in
-    let q = sym (ap walkPaper (c .before .before .size .given .1)) ∙ c .before .before .before .before .entry-at .ensures in
-    omega (arith, ends-near (l .at) (numbersOf s) (place-entry _ _ (drop (l .at) (numbersOf s))) (l .inv .within) q, numbers-low s)
+    let q = sym (ap walkPaper (c .before .before .size .given .1))
+    ∙ c .before .before .before .before .entry-at .ensures in
+    omega (
+      arith,
+      ends-near (l .at) (numbersOf s) (place-entry _ _ (drop (l .at) (numbersOf s)))
+          (l .inv .within) q,
+      numbers-low s,
+    )
 
 loop-again : tie.Need-loop-again Inv-loop μ-loop
 loop-again c =
     let a = c .before .before .before .before .before .before .before .before .before .before .before .args in
-    let q = sym (ap walkPaper (c .before .before .size .given .1)) ∙ c .before .before .before .before .entry-at .ensures in
+    let q = sym (ap walkPaper (c .before .before .size .given .1))
+    ∙ c .before .before .before .before .entry-at .ensures in
     section-next (c .before .before .before .before .before .before .loop .inv) (entry-deep (a .kind)) (omega arith) q
     (c .first-under .ensures)
 
@@ -57,7 +65,12 @@ add-t15 c =
     let s = now (c .before .before .before .before .before .before .before .before .before .before .args .part) in
     let l = c .before .before .before .before .before .loop in
     let q = sym (ap walkPaper (c .before .p .given .1)) ∙ c .before .before .before .entry-at .ensures in
-    omega (arith, broken-near (l .at) (numbersOf s) (place-entry _ _ (drop (l .at) (numbersOf s))) (l .inv .within) q, numbers-low s)
+    omega (
+      arith,
+      broken-near (l .at) (numbersOf s) (place-entry _ _ (drop (l .at) (numbersOf s)))
+          (l .inv .within) q,
+      numbers-low s,
+    )
 
 returns-2 : tie.Need-returns-2 Inv-loop μ-loop
 returns-2 c =

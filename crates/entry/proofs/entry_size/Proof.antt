@@ -14,4 +14,5 @@ returns-4 : tie.Need-returns-4
 returns-4 c = size-last _ _ (c .match .rest)
 
 pub entry-size-spec : {M : Type 1} → statement M
-entry-size-spec = tie.close (tie.spec (λ c. search needs) (λ c. search needs) (λ c. search needs) returns-2 (λ c. search needs) returns-4)
+entry-size-spec = tie.close (tie.spec (λ c. search needs) (λ c. search needs) (λ c. search needs) returns-2
+    (λ c. search needs) returns-4)

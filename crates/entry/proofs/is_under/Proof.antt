@@ -45,7 +45,8 @@ module _ (kind : ℕ) (key : Key) (ws : List ℕ) where
       by-le 3 (length ws)
       (λ l. rw (lt-ltb 2 (length ws) (omega arith))
       (sym (under-three (kindAt kind) (key .severity) (key .letter) (key .column) 0 ws (omega arith) three)))
-      (λ l. rw (le-ltb 2 (length ws) (omega arith)) (and-false (eqb (getD ws 0 0) (key .severity)) ∙ not-whole (omega arith) (omega arith)))
+      (λ l. rw (le-ltb 2 (length ws) (omega arith)) (and-false (eqb (getD ws 0 0) (key .severity)) ∙ not-whole
+      (omega arith) (omega arith)))
 
 returns : tie.Need-returns
 returns c =
@@ -56,14 +57,16 @@ returns-2 : tie.Need-returns-2
 returns-2 c =
     let a = c .before .before .before .before .before .before .before .args in
     let ws = numbersOf (now (a .e)) in
-    let other = ne-eqb (getD ws 0 0) (a .key .severity) (λ h. c .if2 .taken (c .before .before .number .ensures .0 ∙ h)) in
+    let other = ne-eqb (getD ws 0 0) (a .key .severity) (λ h. c .if2 .taken (c .before .before .number .ensures .0
+    ∙ h)) in
     rw other at (by-three (a .kind) (a .key) ws (c .before .before .before .if1 .left))
 
 returns-3 : tie.Need-returns-3
 returns-3 c =
     let a = c .before .before .before .before .before .before .before .before .args in
     let ws = numbersOf (now (a .e)) in
-    let same = eq-eqb (getD ws 0 0) (a .key .severity) (sym (c .before .before .before .number .ensures .0) ∙ c .before .if2 .left) in
+    let same = eq-eqb (getD ws 0 0) (a .key .severity) (sym (c .before .before .before .number .ensures .0)
+    ∙ c .before .if2 .left) in
     c .pair-is2 .ensures ∙ rw same at (by-three (a .kind) (a .key) ws (c .before .before .before .before .if1 .left))
 
 pub is-under-spec : {M : Type 1} → statement M

@@ -26,7 +26,8 @@ returns-2 c =
     rw (
       c .before .count .ensures,
       c .number2 .ensures .0,
-      eq-eqb (getD ws (a .i) 0) (a .x) (sym (c .before .before .before .number .ensures .0) ∙ c .before .before .if1 .left),
+      eq-eqb (getD ws (a .i) 0) (a .x) (sym (c .before .before .before .number .ensures .0)
+          ∙ c .before .before .if1 .left),
     )
 
 pub pair-is-spec : {M : Type 1} → statement M

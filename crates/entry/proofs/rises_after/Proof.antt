@@ -54,7 +54,8 @@ loop-again c =
     let l = c .before .before .before .before .before .before .loop in (
       omega arith,
       l .inv .1
-          ∙ key-same (numbersOf (now (a .args .before))) (numbersOf (now (a .args .e))) (kindAt (a .args .kind) .key) (l .i)
+          ∙ key-same (numbersOf (now (a .args .before))) (numbersOf (now (a .args .e))) (kindAt (a .args .kind) .key)
+          (l .i)
           (a .pre) (omega arith) (omega arith) (omega arith) (omega arith),
     )
 

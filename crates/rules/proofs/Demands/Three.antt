@@ -1,6 +1,6 @@
--- Demand 3, each sentence a theorem, of histories and of runs of calls; what a run records; and by what each severity is
--- left. A history is its events, newest first; those of a history of bytes are `past w h (length h)`, the
--- bytes' events turned round (`past-whole`). A run starts from a fresh record, and refused calls are dropped. For any
+-- Demand 3, each sentence a theorem, of histories and of runs of calls; what a run records; and by what each severity
+-- is left. A history is its events, newest first; those of a history of bytes are `past w h (length h)`, the bytes'
+-- events turned round (`past-whole`). A run starts from a fresh record, and refused calls are dropped. For any
 -- permission at the start, and any work.
 -- Assumes nothing.
 use Prim.Native.Nat.{ℕ}
@@ -104,8 +104,8 @@ module _ (w : Work) (cs : List Call) where
   pub run-record-bytes : ran w cs ≡ recordRead (w .permission) (map eventOf (bytesRan w cs))
   run-record-bytes = agree (w .permission) (map eventOf (bytesRan w cs)) (ran w cs) (ran-agrees-bytes w cs)
 
--- lotlog's lines are such a run: the record that it holds after them has the severity and all the figures of the written
--- reading of the events that the lines stand for, so that what is said of runs holds of lotlog.
+-- lotlog's lines are such a run: the record that it holds after them has the severity and all the figures of the
+-- written reading of the events that the lines stand for, so that what is said of runs holds of lotlog.
 module _ (w : Work) (lines : List (List ℕ)) where
   pub log-run : heldFrom w 1 (fresh (w .permission)) lines ≡ ran w (callsAfter w [] lines)
   unfolding ran
@@ -203,8 +203,8 @@ run-corrected w c cs k h = ran-corrected w c cs k h
 
 -- Normal is left for tightened exactly by a lot not accepted that makes two among the last five of that stay, for
 -- reduced exactly by a lot or an order after which the points are 30, steady and permission stand; tightened for normal
--- exactly by the fifth accepted in a row of that stay, for stopped exactly by its fifth not accepted; reduced exactly by
--- a lot not accepted or an order that withdraws, for normal.
+-- exactly by the fifth accepted in a row of that stay, for stopped exactly by its fifth not accepted; reduced exactly
+-- by a lot not accepted or an order that withdraws, for normal.
 module _ (start : Bool) (e : Event) (es : List Event) where
   pub history-leaves-normal : severityRead start es ≡ normal → NormalLeft start es e (severityRead start (e ∷ es))
   history-leaves-normal h = normal-left start e es h

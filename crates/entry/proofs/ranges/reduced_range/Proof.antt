@@ -5,4 +5,5 @@ use Rattle.entry.proofs.ranges.reduced_range.Statement.{statement}
 use Rattle.entry.proofs.ranges.reduced_range.Tie as tie
 
 pub reduced-range-spec : {M : Type 1} → statement M
-reduced-range-spec = tie.close (tie.spec (λ c. search range-is) (λ c. search range-is) (λ c. search range-is) (λ c. search range-is) (λ c. search range-past))
+reduced-range-spec = tie.close (tie.spec (λ c. search range-is) (λ c. search range-is) (λ c. search range-is)
+    (λ c. search range-is) (λ c. search range-past))

@@ -6,4 +6,5 @@ use Rattle.entry.proofs.ranges.sequential_range.Tie as tie
 
 pub sequential-range-spec : {M : Type 1} → statement M
 sequential-range-spec =
-    tie.close (tie.spec (λ c. search range-is) (λ c. search range-is) (λ c. search range-is) (λ c. search range-is) (λ c. search range-is) (λ c. search range-is) (λ c. search range-is) (λ c. search range-past))
+    tie.close (tie.spec (λ c. search range-is) (λ c. search range-is) (λ c. search range-is) (λ c. search range-is)
+    (λ c. search range-is) (λ c. search range-is) (λ c. search range-is) (λ c. search range-past))

@@ -5,4 +5,5 @@ use Rattle.entry.proofs.ranges.staged_range.Statement.{statement}
 use Rattle.entry.proofs.ranges.staged_range.Tie as tie
 
 pub staged-range-spec : {M : Type 1} → statement M
-staged-range-spec = tie.close (tie.spec (λ c. search range-is) (λ c. search range-is) (λ c. search range-is) (λ c. search range-is) (λ c. search range-past))
+staged-range-spec = tie.close (tie.spec (λ c. search range-is) (λ c. search range-is) (λ c. search range-is)
+    (λ c. search range-is) (λ c. search range-past))

@@ -5,4 +5,5 @@ use Rattle.entry.proofs.ranges.variables_range.Statement.{statement}
 use Rattle.entry.proofs.ranges.variables_range.Tie as tie
 
 pub variables-range-spec : {M : Type 1} → statement M
-variables-range-spec = tie.close (tie.spec (λ c. search range-is) (λ c. search range-is) (λ c. search range-is) (λ c. search range-is) (λ c. search range-is) (λ c. search range-past))
+variables-range-spec = tie.close (tie.spec (λ c. search range-is) (λ c. search range-is) (λ c. search range-is)
+    (λ c. search range-is) (λ c. search range-is) (λ c. search range-past))
