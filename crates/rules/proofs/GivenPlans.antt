@@ -27,7 +27,7 @@ use Rattle.rules.specs.Entries.{variablesPlan, variablesEntry, stagedSec
 use Rattle.rules.specs.Entries.{reducedSection, sequentialSection, variablesSection, singlePlan}
 use Rattle.rules.specs.Entries.{reducedPlan}
 use Rattle.rules.specs.Judging.{sizeOfFirst}
-use Rattle.rules.specs.Planning.{Plannable, SinglePlanned, Supplies}
+use Rattle.rules.specs.Planning.{Plannable, UnderKey, SinglePlanned, Supplies}
 use Rattle.rules.specs.PlanRules.{Held}
 use Rattle.rules.proofs.Bounded.{by-le, all, all-at, all-at₃, both-left, both-right}
 use Rattle.rules.proofs.Tables.{letter-within, landing-letter}
@@ -58,10 +58,6 @@ supplies j needed planOf q book inside good lot e x u fits =
 
 -- A lot that can be planned, of severity, Table 1 letter and column, and an entry of a sound book.
 module _ (q : Asked) (book : List ℕ) (good : checkBook book ≡ sound) (lot : Plannable q) (e : List ℕ) where
-  -- The lot's key, with the severity in sections 2 to 4.
-  abbrev pub Under : Type 0
-  Under = take 3 e ≡ q .severity ∷ letterOf (q .size) (q .level) ∷ q .column ∷ []
-
   -- Under reduced inspection a single plan is given, cut to the lot: no entry is above it.
   pub reduced-supplies : q .severity ≡ reduced → EntryIn reducedSection (numbersOf book) e
       → take 2 e ≡ letterOf (q .size) (q .level) ∷ q .column ∷ [] → singlePlan q book ≡ given (reducedPlan q e)
@@ -81,19 +77,19 @@ module _ (q : Asked) (book : List ℕ) (good : checkBook book ≡ sound) (lot : 
       })
 
   -- A staged, sequential or variables plan is given where it is not above the lot.
-  pub staged-supplies : EntryIn stagedSection (numbersOf book) e → Under
+  pub staged-supplies : EntryIn stagedSection (numbersOf book) e → UnderKey q e
       → totalSize (stagesOf (stagedOf e)) ≤ q .size → stagedPlan q book ≡ given (stagedOf e)
   staged-supplies x u fits =
       staged-plan-given q book (stagedOf e) .1
       (supplies stagedSection _ stagedOf q book (omega arith) good lot e x u fits)
 
-  pub sequential-supplies : EntryIn sequentialSection (numbersOf book) e → Under → sequentialOf e .nt ≤ q .size
+  pub sequential-supplies : EntryIn sequentialSection (numbersOf book) e → UnderKey q e → sequentialOf e .nt ≤ q .size
       → sequentialPlan q book ≡ given (sequentialOf e)
   sequential-supplies x u fits =
       sequential-plan-given q book (sequentialOf e) .1
       (supplies sequentialSection _ sequentialOf q book (omega arith) good lot e x u fits)
 
-  pub variables-supplies : EntryIn variablesSection (numbersOf book) e → Under → variablesOf e .n ≤ q .size
+  pub variables-supplies : EntryIn variablesSection (numbersOf book) e → UnderKey q e → variablesOf e .n ≤ q .size
       → variablesPlan q book ≡ given (variablesOf e)
   variables-supplies x u fits =
       variables-plan-given q book (variablesOf e) .1

@@ -6,11 +6,11 @@ use mathlib.Core.Logic.{_↔_}
 use mathlib.Core.Bool.{Bool, true, false}
 use mathlib.Core.List.{List, [], _∷_, _++_}
 use native.Mathlib.Omega.{arith}
-use borrow.Author.Tests.{leb-true, eqb-true}
+use borrow.Author.Tests.{leb-true, eqb-true, le-ltb, lt-ltb}
 use lib.Dec.{leb, eqb}
 use lib.ListN.{length, getD, replicate, length-append, length-replicate}
 use lib.Seq.{ext-getD}
-use Rattle.rules.specs.Refusals.{Answer, refused, given}
+use Rattle.rules.specs.Refusals.{Answer, refused, given, bufferShort}
 use Rattle.rules.specs.Severity.{Record, inRange, figuresInRange, fresh}
 use Rattle.rules.specs.History.{ours}
 use Rattle.rules.specs.Book.{every, seven, stagedOf}
@@ -18,10 +18,11 @@ use Rattle.rules.specs.Entries.{Asked, stagedPlan}
 use Rattle.rules.specs.Numbers.{numbersOf}
 use Rattle.rules.specs.Staged.{StagedPlan}
 use Rattle.rules.specs.Terminal.{statusOf, largestPlace, wideStatusOf, flag, bytesOf, hasForm, recordIn}
-use Rattle.rules.specs.Terminal.{recordBytes, rowLength, rowBytes}
+use Rattle.rules.specs.Terminal.{recordBytes, rowLength, rowBytes, intoRow}
 use Rattle.rules.proofs.Numbers.{bytes-twice, numbers-back}
 use Rattle.rules.proofs.Answers.{refused-given}
 use Rattle.rules.proofs.Bools.{and-left, and-right}
+use Rattle.rules.proofs.Bounded.{by-le}
 use Rattle.rules.proofs.HeldStaged.{every-length, every-at}
 use Rattle.rules.proofs.GivenPlans.{staged-given}
 use Rattle.rules.proofs.Demands.Two.{staged-plan-given}
@@ -111,6 +112,21 @@ row-length p a b c =
 
 pub row-back : (p : StagedPlan) → numbersOf (rowBytes p) ≡ p .sizes ++ (p .acs ++ p .res)
 row-back p = numbers-back (p .sizes ++ (p .acs ++ p .res))
+
+-- A row is given exactly where the plan is and the row has room, and 11 comes after every refusal of the plan.
+module _ {A : Type 0} (room : ℕ) where
+  pub row-given : (a : Answer A) (x : A) → (intoRow room a ≡ given x) ↔ ((a ≡ given x) × (rowLength ≤ room))
+  row-given (refused n p) x = (λ e. absurd (refused-given e), λ h. h .0)
+  row-given (given y) x =
+      by-le rowLength room
+      (λ h. rw (le-ltb room rowLength h) (λ e. (e, h), λ g. g .0))
+      (λ h. rw (lt-ltb room rowLength h) (λ e. absurd (refused-given e), λ g. absurd (omega (arith, g .1))))
+
+  pub row-short : (a : Answer A) (x : A) → a ≡ given x → room < rowLength → intoRow room a ≡ refused bufferShort 0
+  row-short a x e h = rw (e, lt-ltb room rowLength h)
+
+  pub row-refused : (a : Answer A) (n p : ℕ) → a ≡ refused n p → intoRow room a ≡ refused n p
+  row-refused a n p e = rw e
 
 -- Every plan that a book supplies has seven places of each, and so a row of 42 bytes.
 pub given-row : (q : Asked) (book : List ℕ) (p : StagedPlan) → stagedPlan q book ≡ given p

@@ -19,7 +19,8 @@ pub mod Terminal
 -- Reading says without a record what Severity says step by step (`agree`). Faults, by the places of Layout, says
 -- without a walk what Book finds (`lowest`, `sound-has-none`). Feeding says piece by piece what Log says of a whole
 -- input (`any-pieces`). Printed has the rows of Table 1 by their first and last sizes (`row-by-size`), and the master
--- tables letter by letter (`boxes-as-printed`).
+-- tables letter by letter (`boxes-as-printed`). Some promises are written in them too: the severities listed are those
+-- of Reading, lotlog's pieces are fed as in Feeding, and an entry's plan is that of Layout's entry.
 pub mod Reading
 pub mod Layout
 pub mod Faults

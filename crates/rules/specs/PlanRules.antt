@@ -16,7 +16,7 @@ pub record Held (k : Kind) (e : List ℕ) : Type 0 where
   pub whole : sizeOf k e ≤ length e
   pub each : (p : ℕ) → p < sizeOf k e → right k e p ≡ true
 
--- "letter 0 to 15, column, n 1 to 3,150, Ac up to 65,534"
+-- "n 1 to 3,150, Ac up to 65,534"
 pub record SingleRight (p : Plan) : Type 0 where
   pub some : 1 ≤ p .n
   pub few : p .n ≤ 3150
@@ -30,8 +30,7 @@ pub record VariablesRight (p : VariablesPlan) : Type 0 where
   pub high : p .k ≤ 4000
 
 -- "hA, hR (both 1 or more), g 1 to 60,000, nt 1 to 3,150, At with floor(g·nt − hA) ≤ At < ceiling(g·nt + hR)": at the
--- last
--- item At agrees with the two lines.
+-- last item At agrees with the two lines.
 pub record SequentialRight (p : SequentialPlan) : Type 0 where
   pub hA : (1 ≤ p .hA) × (p .hA ≤ 65535)
   pub hR : (1 ≤ p .hR) × (p .hR ≤ 65535)

@@ -3,9 +3,9 @@
 use Prim.Native.Nat.{ℕ, suc, _≤_, _<_}
 use mathlib.Core.Path.{_≡_}
 use mathlib.Core.Bool.{true}
-use mathlib.Core.List.{List}
+use mathlib.Core.List.{List, [], _∷_}
 use lib.Dec.{leb}
-use lib.ListN.{length, getD}
+use lib.ListN.{length, getD, take}
 use Rattle.rules.specs.Refusals.{Answer, refused, given}
 use Rattle.rules.specs.Verdict.{Verdict, Judged}
 use Rattle.rules.specs.Codes.{letterOf}
@@ -32,6 +32,10 @@ pub record Plannable (q : Asked) : Type 0 where
   pub size : 2 ≤ q .size
   pub level : q .level < 7
   pub column : q .column < 26
+
+-- An entry of sections 2 to 4 is under the lot's key: its severity, Table 1 letter and column.
+abbrev pub UnderKey : Asked → List ℕ → Type 0
+UnderKey q e = take 3 e ≡ q .severity ∷ letterOf (q .size) (q .level) ∷ q .column ∷ []
 
 -- The single plan. 6 under reduced inspection, where the book has no entry under the key.
 abbrev pub NoReduced : Asked → List ℕ → Type 0

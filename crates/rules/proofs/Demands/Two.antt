@@ -510,21 +510,21 @@ module _ (bytes : List ℕ) where
   sequential-sample-given plan v = sequence-decided plan bytes v
 
   module _ (upper : Bool) (limit : ℤ) (plan : VariablesPlan) where
-    abbrev pub couldBe : Bool
+    couldBe : Bool
     couldBe = couldHold variables (variablesEntry plan)
 
     pub variables-sample-refused :
-        Reports 6 (Row 6 (couldBe ≡ false) (ReadingRows limit bytes plan))
+        Reports 6 (Row 6 (couldHold variables (variablesEntry plan) ≡ false) (ReadingRows limit bytes plan))
         (variablesSample upper plan limit bytes)
-    unfolding variablesSample
+    unfolding variablesSample couldBe
     variables-sample-refused =
         check 6 (not couldBe) (not-true couldBe) (λ f. ap not f) (omega arith)
         (readings-refused upper limit bytes plan)
 
     pub variables-sample-given : (v : Verdict)
         → (variablesSample upper plan limit bytes ≡ given v)
-        ↔ ((couldBe ≡ true) × ReadingsJudged upper limit bytes plan v)
-    unfolding variablesSample
+        ↔ ((couldHold variables (variablesEntry plan) ≡ true) × ReadingsJudged upper limit bytes plan v)
+    unfolding variablesSample couldBe
     variables-sample-given v =
         let iff = first-given (unlessHeld variables (variablesEntry plan) ∷ []) (judgeReadings upper plan limit bytes) v
         in (
