@@ -15,6 +15,8 @@ use Rattle.plans.specs.declared.Outcome.the-variants as outcomes
 use Rattle.plans.specs.declared.VerdictAnswer.{VerdictAnswer}
 use Rattle.plans.specs.declared.VerdictAnswer.the-variants as verdicts
 use Rattle.plans.specs.declared.SinglePlanned.{SinglePlanned}
+use Rattle.plans.specs.declared.Asked.{Asked}
+use Rattle.plans.specs.Paper.{askedPaper}
 use Rattle.plans.specs.Paper.{planPaper, verdictPaper, letterPaper, verdictAnswer, Beside, outcomeOn}
 use Rattle.plans.specs.Paper.{plannedPaper}
 
@@ -23,6 +25,11 @@ letter-one (letters.Refused n p) (letters.Refused m q) e = cc
 letter-one (letters.Refused n p) (letters.Given l) e = cc
 letter-one (letters.Given l) (letters.Refused m q) e = cc
 letter-one (letters.Given l) (letters.Given k) e = cc
+
+pub asked-one : (a b : Asked) → askedPaper a ≡ askedPaper b → a ≡ b
+asked-one =
+    read-back askedPaper
+    (λ q. record { severity = q .severity; size = q .size; level = q .level; column = q .column }) (λ a. refl)
 
 abbrev pub planBack : paper.Plan → SinglePlan
 planBack p = record { letter = p .letter; n = p .n; ac = p .ac }
