@@ -16,7 +16,7 @@ use Rattle.rules.proofs.Feeding.{any-calls, some-taken, taken-within}
 use Rattle.lotlines.specs.declared.State.{State}
 use Rattle.lotlines.specs.declared.Fed.{Fed}
 use Rattle.lottexts.specs.Printing.{Puts}
-use Rattle.lotlines.specs.Paper.{Feeds}
+use Rattle.lotlines.specs.Paper.{Starts, Feeds}
 use Rattle.lotstream.specs.Turns.{singly, onwards, Logs}
 use Rattle.lotstream.specs.declared.Turn.{Turn}
 
@@ -77,6 +77,9 @@ pub all-onwards : (w : Work) (input : List ℕ) → header ++ onwards w (startin
 all-onwards w input = any-calls w (singly input) ∙ ap (log w) (took-bytes w (starting w) input)
 
 -- Our work, by its name.
+pub starts-ours : {w : Work} {s : State} → w ≡ ours → Starts w s → Starts ours s
+starts-ours e p = rw e at p
+
 pub feeds-ours : {w : Work} {s : State} {piece out last : List ℕ} {r : Fed} → w ≡ ours → Feeds w s piece out last r
     → Feeds ours s piece out last r
 feeds-ours e f = rw e at f

@@ -2,10 +2,9 @@
 -- Assumes nothing.
 use Prim.Native.Nat.{ℕ, _≤_, _<_}
 use native.Mathlib.Omega.{arith}
-use mathlib.Core.Path.{_≡_, refl, sym, subst, _∙_}
+use mathlib.Core.Path.{_≡_, refl, sym, _∙_}
 use mathlib.Core.List.{List, [], append-nil}
-use borrow.Author.Tests.{lt-ltb, le-ltb, eqb-true}
-use lib.Dec.{T}
+use borrow.Author.Tests.{lt-ltb, le-ltb}
 use lib.IntN.{ℤ}
 use lib.ListN.{length, take, drop, drop-of-length-le}
 use lib.Seq.{length-take-le}
@@ -19,7 +18,7 @@ piece-kept t input h g =
       piece = rw (lt-ltb (t .taken) (t .length) h) (sym (append-nil (left t (take (t .length) input))));
       within = omega arith;
       fits = g;
-      over = λ o n. absurd (subst T (sym o ∙ n) tt);
+      over = rw (lt-ltb (t .taken) (t .length) h);
       state = refl;
       waiting = refl;
     }
@@ -32,7 +31,7 @@ piece-read {t} {r} {before} {input} h g l read =
       piece = rw (none, read .taken, le-ltb (t .taken) (t .length) g);
       within = omega (arith, read .taken);
       fits = read .fits;
-      over = λ o n. eqb-true (r .length) 0 (sym (read .over) ∙ o);
+      over = read .over ∙ rw (le-ltb (t .taken) (t .length) g);
       state = read .state;
       waiting = read .waiting;
     }

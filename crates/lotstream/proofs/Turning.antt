@@ -1,11 +1,13 @@
 -- A turn, by each of its ends: what was to be written is what it writes and what is to be written after it.
 -- Assumes nothing.
-use Prim.Native.Nat.{ℕ, _+_, _≤_}
+use Prim.Native.Nat.{ℕ, _+_, _-_, _<_, _≤_}
 use native.Mathlib.Omega.{arith}
 use mathlib.Core.Path.{_≡_, refl, ap, sym, subst, _∙_}
 use mathlib.Core.Bool.{Bool, true, false, cond}
 use mathlib.Core.List.{List, [], _∷_, _++_, append-nil, append-assoc}
-use lib.Dec.{T, ltb}
+use mathlib.Core.Logic.{inr}
+use borrow.Author.Tests.{eqb-true}
+use lib.Dec.{T, ltb, eqb}
 use lib.ListN.{length, take, drop}
 use lib.Seq.{drop-nil}
 use Rattle.rules.specs.History.{ours}
@@ -16,11 +18,16 @@ use Rattle.lotlines.specs.Paper.{heldPaper}
 use Rattle.lotstream.specs.Turns.{Opened, singly, onwards, waits, left, toCome, Logs, LastPut, Written}
 use Rattle.lotstream.specs.Turns.{brought, Got}
 use Rattle.lotstream.specs.Runs.{leastRoom, Scene, scene, Fits, writes, reads, unwritten, Turned, Ran, Running}
-use Rattle.lotstream.specs.Runs.{Runs}
+use Rattle.lotstream.specs.Runs.{mostTurns, Ended, Runs}
 use Rattle.lotstream.specs.declared.Turn.{Turn}
 
-never : {A : Type 0} {b : Bool} → b ≡ true → b ≡ false → A
+pub never : {A : Type 0} {b : Bool} → b ≡ true → b ≡ false → A
 never t f = absurd (subst T (sym t ∙ f) tt)
+
+-- a read that brings nothing, where one is made
+over-none : (b : Bool) (n : ℕ) → cond b false (eqb n 0) ≡ true → n ≡ 0
+over-none true n e = never e refl
+over-none false n e = eqb-true n 0 e
 
 none-onwards : (s : Held) → onwards ours s [] ≡ finished ours s
 unfolding saidIn singly
@@ -43,6 +50,7 @@ module _ {t : Turn} {input out : List ℕ} (first : Fits (scene t input out)) {s
         account = λ e more m. never f e;
         answered = λ e o r. never f e;
         cut = λ _. w .none;
+        ends = λ e _. never f e;
         stays = λ o. w .over ∙ o;
         fits = sent-fits;
       }
@@ -54,6 +62,7 @@ module _ {t : Turn} {input out : List ℕ} (first : Fits (scene t input out)) {s
         account = λ e more m. account more;
         answered = λ e n r. never o n;
         cut = λ _. w .none;
+        ends = λ _ n. never (sym (w .over) ∙ o) n;
         stays = λ _. o;
         fits = sent-fits;
       }
@@ -69,6 +78,17 @@ module _ {t : Turn} {input out : List ℕ} (first : Fits (scene t input out)) {s
 
     none : got .waiting ≡ 0
     none = g .waiting ∙ w .none
+
+    -- whether the input is over then
+    now-over : (r : Turn) → r .over ≡ got .over → r .length ≡ got .length
+        → r .over ≡ cond (ltb (t .taken) (t .length)) false (eqb (r .length) 0)
+    now-over r e l =
+        e
+        ∙ g .over
+        ∙ ap (λ (b : Bool). cond (ltb (sent .taken) (sent .length)) b (eqb (got .length) 0)) o
+        ∙ ap (λ (n : ℕ). cond (ltb n (sent .length)) false (eqb (got .length) 0)) (w .taken)
+        ∙ ap (λ (n : ℕ). cond (ltb (t .taken) n) false (eqb (got .length) 0)) (w .long)
+        ∙ ap (λ (n : ℕ). cond (ltb (t .taken) (t .length)) false (eqb n 0)) (sym l)
 
     -- what is left of the piece then
     now-left : (r : Turn) → r .length ≡ got .length → (more : List ℕ)
@@ -108,6 +128,7 @@ module _ {t : Turn} {input out : List ℕ} (first : Fits (scene t input out)) {s
           account = λ e more m. never f e;
           answered = λ e n r. never f e;
           cut = λ _. none;
+          ends = λ e _. never f e;
           stays = λ e. never e begun;
           fits = record { taken = g .within; long = g .fits; waiting = omega (arith, none); room = first .room };
         }
@@ -120,6 +141,7 @@ module _ {t : Turn} {input out : List ℕ} (first : Fits (scene t input out)) {s
             account = λ _ more m. account more (m (l .over ∙ e));
             answered = λ _ n h. never (l .over ∙ e) n;
             cut = λ q. never q (l .failed ∙ f);
+            ends = λ _ _. now-over r (l .over) (l .long);
             stays = λ _. l .over ∙ e;
             fits = record {
               taken = omega (arith, g .within, l .taken, l .long);
@@ -130,7 +152,10 @@ module _ {t : Turn} {input out : List ℕ} (first : Fits (scene t input out)) {s
           }
         where
           gone : left got (take (got .length) read) ≡ []
-          gone = ap (λ (n : ℕ). left got (take n read)) (g .over e o) ∙ drop-nil (got .taken)
+          gone =
+              let nothing : got .length ≡ 0 =
+              over-none (ltb (t .taken) (t .length)) (got .length) (sym (now-over got refl refl) ∙ e) in
+              ap (λ (n : ℕ). left got (take n read)) nothing ∙ drop-nil (got .taken)
 
           ends : onwards ours (heldPaper (got .state)) (left got (take (got .length) read) ++ [])
               ≡ finished ours (heldPaper (got .state))
@@ -168,6 +193,7 @@ module _ {t : Turn} {input out : List ℕ} (first : Fits (scene t input out)) {s
             account = λ _ more _. account more;
             answered = λ _ _ h. let full = all (omega (arith, h, k)) in omega (arith, full, long, l .long);
             cut = λ q. never q (l .failed ∙ f);
+            ends = λ _ _. now-over r (l .over) (l .long);
             stays = λ b. never b begun;
             fits = record {
               taken = omega (arith, l .within, long, l .long);
@@ -205,12 +231,14 @@ module _ {t : Turn} {input out : List ℕ} (first : Fits (scene t input out)) {s
               ∙ ap (λ (q : List ℕ). waits t out ++ q) (sym (after more ∙ l .same more ∙ empty more))
 
 -- The first turn of a run, a turn more, and the run that ends with it.
-pub run-opened : {r : Turn} {input out : List ℕ} → Opened out r → leastRoom ≤ length out → Running (scene r input out)
+pub run-opened : {r : Turn} {turns : ℕ} {input out : List ℕ} → Opened out r → leastRoom ≤ length out
+    → turns ≡ mostTurns → Running turns (scene r input out)
 unfolding Ran
-run-opened o h =
+run-opened o h e =
     record {
       past = [];
       ran = o;
+      count = omega (arith, e);
       going = o .failed;
       fits = record {
         taken = omega (arith, o .taken);
@@ -220,23 +248,33 @@ run-opened o h =
       };
     }
 
-module _ {before now : Scene} (run : Running before) (turned : Turned before now) where
+module _ {turns : ℕ} {before now : Scene} (run : Running turns before) (turned : Turned before now) where
   ran-more : Ran (before ∷ run .past) now
   unfolding Ran
   ran-more = (run .ran, run .going, turned)
 
-  pub run-more : now .turn .failed ≡ false → Running now
-  run-more f = record { past = before ∷ run .past; ran = ran-more; going = f; fits = turned .fits }
+  pub run-more : now .turn .failed ≡ false → 0 < turns → Running (turns - 1) now
+  run-more f h =
+      record {
+        past = before ∷ run .past;
+        ran = ran-more;
+        count = omega (arith, run .count, h);
+        going = f;
+        fits = turned .fits;
+      }
 
-pub runs-now : {r : Turn} {input out read put : List ℕ} → leastRoom ≤ length out → Running (scene r read put)
-    → Runs input out read put r
-runs-now h run = record { small = λ l. absurd (omega arith); ran = λ _. (run .past, run .ran) }
-
-pub runs-more : {t r : Turn} {input out readFrom putIn read put : List ℕ} → leastRoom ≤ length out
-    → Running (scene t readFrom putIn) → Turned (scene t readFrom putIn) (scene r read put)
-    → Runs input out read put r
-runs-more {t} {readFrom = readFrom} {putIn = putIn} h run turned =
+-- no turn is left
+pub runs-now : {r : Turn} {turns : ℕ} {input out read put : List ℕ} → leastRoom ≤ length out → turns ≤ 0
+    → Running turns (scene r read put) → Runs input out read put r
+runs-now h e run =
     record {
       small = λ l. absurd (omega arith);
-      ran = λ _. (scene t readFrom putIn ∷ run .past, ran-more run turned);
+      ran = λ _. (run .past, run .ran, inr (inr (omega (arith, run .count, e))));
     }
+
+pub runs-more : {t r : Turn} {turns : ℕ} {input out readFrom putIn read put : List ℕ} → leastRoom ≤ length out
+    → ((past : List Scene) → Ended past r) → Running turns (scene t readFrom putIn)
+    → Turned (scene t readFrom putIn) (scene r read put) → Runs input out read put r
+runs-more {t} {readFrom = readFrom} {putIn = putIn} h e run turned =
+    let past : List Scene = scene t readFrom putIn ∷ run .past in
+    record { small = λ l. absurd (omega arith); ran = λ _. (past, ran-more run turned, e past) }

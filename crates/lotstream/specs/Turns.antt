@@ -5,9 +5,10 @@ use mathlib.Core.Path.{_≡_}
 use mathlib.Core.Bool.{true, false, cond}
 use mathlib.Core.List.{List, [], _∷_, _++_}
 use lib.Dec.{ltb, eqb}
-use lib.IntN.{ℤ}
+use lib.IntN.{ℤ, pos}
 use lib.ListN.{length, take, drop}
 use lib.Seq.{sets}
+use lib.Signed.{ltZ}
 use Rattle.io.specs.Counts.{clamped}
 use Rattle.rules.specs.History.{Work, ours}
 use Rattle.rules.specs.Log.{log}
@@ -74,12 +75,13 @@ pub record Written (t r : Turn) : Type 0 where
   pub taken : r .taken ≡ t .taken
   pub over : r .over ≡ t .over
 
--- The piece of as many bytes as the read answered; none is the end of the input.
+-- The piece of as many bytes as the read answered; none is the end of the input, and below 0 the read failed.
 pub record Taken (t : Turn) (got : ℤ) (room : ℕ) (r : Turn) : Type 0 where
   pub long : r .length ≡ clamped got room
   pub fits : r .length ≤ room
   pub taken : r .taken ≡ 0
   pub over : r .over ≡ eqb (r .length) 0
+  pub failed : r .failed ≡ ltZ got (pos 0)
   pub state : r .state ≡ t .state
   pub waiting : r .waiting ≡ t .waiting
 
@@ -91,6 +93,6 @@ pub record Got (t : Turn) (before input : List ℕ) (r : Turn) : Type 0 where
   pub piece : left r (take (r .length) input) ≡ left t (take (t .length) before) ++ brought t r input
   pub within : r .taken ≤ r .length
   pub fits : r .length ≤ length input
-  pub over : r .over ≡ true → t .over ≡ false → r .length ≡ 0
+  pub over : r .over ≡ cond (ltb (t .taken) (t .length)) (t .over) (eqb (r .length) 0)
   pub state : r .state ≡ t .state
   pub waiting : r .waiting ≡ t .waiting
