@@ -73,9 +73,15 @@ static void print_staged_plan(void) {
     if (!is_answered("staged plan", status))
         return;
     printf("%-16s", "staged plan");
-    for (unsigned i = 0; i < stages; i++)
-        printf("%s %u items, Ac %u, Re %u", i > 0 ? ";" : "", HM_STAGE_SIZE(row, i), HM_STAGE_AC(row, i),
-               HM_STAGE_RE(row, i));
+    for (unsigned i = 0; i < stages; i++) {
+        unsigned ac = HM_STAGE_AC(row, i);
+        printf("%s %u items, Ac ", i > 0 ? ";" : "", HM_STAGE_SIZE(row, i));
+        if (ac == HM_MARK)
+            printf("-"); /* no acceptance at this stage */
+        else
+            printf("%u", ac);
+        printf(", Re %u", HM_STAGE_RE(row, i));
+    }
     printf("\n");
 }
 

@@ -189,7 +189,8 @@ uint32_t hm_plan(uint32_t size, uint32_t level, uint32_t column, uint32_t severi
  *   letter  that of Table 1
  *   stages  2 to 7
  *   row     sizes, Ac and Re of the stages (HM_STAGE_SIZE, HM_STAGE_AC, HM_STAGE_RE, of a stage counted from 0), and 0
- *           in the places past the last; only the first HM_STAGED_ROW_BYTES bytes are written
+ *           in the places past the last; only the first HM_STAGED_ROW_BYTES bytes are written. After each stage a
+ *           running total of at most Ac accepts (none does where Ac is HM_MARK), one of at least Re rejects
  * Refuses 1 2 3 4 5 6 11 12.
  */
 uint32_t hm_staged_plan(uint32_t size, uint32_t level, uint32_t column, uint32_t severity, const uint8_t *book,
@@ -266,7 +267,8 @@ uint32_t hm_close_staged(uint8_t *record, size_t record_len, uint32_t resubmitte
                          size_t sample_len, uint8_t *accepted, uint16_t *used, uint8_t *byte);
 
 /*
- * Move the record by one event, HM_ACCEPTED_ADD_3 to HM_CORRECTIVE: an order, or a lot judged elsewhere.
+ * Move the record by one event, HM_ACCEPTED_ADD_3 to HM_CORRECTIVE: an order, or an attributes lot judged elsewhere.
+ * Never a lot judged on a sequential or variables plan: those enter neither the record nor the history.
  * Refuses 1 5 10.
  */
 uint32_t hm_next(uint8_t *record, size_t record_len, uint32_t event);
