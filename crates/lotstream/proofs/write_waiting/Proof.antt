@@ -1,13 +1,13 @@
 -- `lotstream::write_waiting` meets its contract.
 use native.Mathlib.Omega.{arith}
-use mathlib.Core.Path.{refl, sym}
+use mathlib.Core.Path.{refl}
 use lib.Seq.{length-take-le}
 use borrow.Author.Needs.{needs}
 use Rattle.lotstream.proofs.write_waiting.Statement.{statement}
 use Rattle.lotstream.proofs.write_waiting.Tie as tie
 
 slice-aggregate-send : tie.Need-slice-aggregate-send
-slice-aggregate-send c = sym (length-take-le _ _ (c .before .before .pre))
+slice-aggregate-send c = search (needs, length-take-le)
 
 sub-left : tie.Need-sub-left
 sub-left c =
