@@ -60,7 +60,7 @@ refused-then (refused m q) f n p e = cc
 refused-then (given x) f n p e = absurd (refused-given (sym e))
 
 -- a book that was checked is not checked again
-checked-once : {A B : Type 0} (c : Checked) (a : Answer A) (f : A → Answer B)
+pub checked-once : {A B : Type 0} (c : Checked) (a : Answer A) (f : A → Answer B)
     → onSound c (andThen (onSound c a) f) ≡ andThen (onSound c a) f
 checked-once sound a f = refl
 checked-once (brokenAt byte) a f = refl

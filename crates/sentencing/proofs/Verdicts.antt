@@ -27,7 +27,7 @@ use Rattle.plans.specs.declared.VerdictAnswer.{VerdictAnswer}
 use Rattle.plans.specs.declared.VerdictAnswer.the-variants as verdicts
 use Rattle.plans.specs.Paper.{Beside, beside, outcomeOn, verdictAnswer, verdictOn, itself}
 use Rattle.sentencing.specs.Paper.{withoutLetter, planned}
-use Rattle.sentencing.proofs.Supplies.{refused-alike}
+use Rattle.sentencing.proofs.Supplies.{refused-alike, checked-once}
 
 -- what stands beside an answer leaves the answer
 pub beside-answer : {P A : Type 0} (zeros : P) (planOf : A → P) (r : Beside P A) (a : Answer A)
@@ -116,20 +116,14 @@ module _ {P C : Type 0} (c : Checked) (judged : Answer (Judged P Verdict)) (clos
       go sound e = refl
       go (brokenAt byte) e = rw e
 
--- what was judged from a book has had it checked
-pub book-checked : {P J : Type 0} (c : Checked) (plan : Answer P) (judge : P → Answer J)
-    → andThen (onSound c plan) judge ≡ onSound c (andThen (onSound c plan) judge)
-book-checked sound plan judge = refl
-book-checked (brokenAt byte) plan judge = refl
-
 module _ (q : Asked) (book sample : List ℕ) where
   pub single-checked : judgeSingle q book sample ≡ onSound (checkBook book) (judgeSingle q book sample)
   unfolding judgeSingle singlePlan
-  single-checked = book-checked (checkBook book) _ _
+  single-checked = sym (checked-once (checkBook book) _ _)
 
   pub staged-checked : judgeStaged q book sample ≡ onSound (checkBook book) (judgeStaged q book sample)
   unfolding judgeStaged stagedPlan
-  staged-checked = book-checked (checkBook book) _ _
+  staged-checked = sym (checked-once (checkBook book) _ _)
 
 module _ {P : Type 0} (book : List ℕ) (r : Record) (judged : Answer (Judged P Verdict))
     (close : Judged P Verdict → Answer (Closed P)) where

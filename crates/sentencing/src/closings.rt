@@ -16,11 +16,9 @@ use closing::ClosedAnswer;
 use closing::Offered;
 use closing::SingleClosed;
 use entry::StagedPlan;
+use plans::UNKNOWN_FORM;
 use plans::VerdictAnswer;
 use severity::Record;
-
-// 1: "a record out of range"
-const OUT_OF_RANGE: u8 = 1;
 
 // A lot closed from a single sample.
 pub fn close_single(old: Record, lot: Offered, book: &[u8], sample: &[u8]) -> SingleClosed
@@ -32,7 +30,7 @@ pub fn close_single(old: Record, lot: Offered, book: &[u8], sample: &[u8]) -> Si
         let judged = judge_single(closing::asked_on(old, lot), book, sample);
         return closing::take_single(old, lot, judged);
     }
-    let first = first_refusal(book, OUT_OF_RANGE, 0);
+    let first = first_refusal(book, UNKNOWN_FORM, 0);
     closing::unclosed(first.number, first.place)
 }
 
@@ -87,7 +85,7 @@ pub fn close_staged(old: Record, lot: Offered, book: &[u8], sample: &[u8]) -> St
         let judged = judge_staged(closing::asked_on(old, lot), book, sample);
         return take_staged(old, lot, judged);
     }
-    let first = first_refusal(book, OUT_OF_RANGE, 0);
+    let first = first_refusal(book, UNKNOWN_FORM, 0);
     staged_closed(
         no_stages(),
         ClosedAnswer::Refused(first.number, first.place),

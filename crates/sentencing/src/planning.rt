@@ -18,12 +18,10 @@ use entry::StagedPlan;
 use entry::VariablesPlan;
 use plans::Asked;
 use plans::LetterAnswer;
+use plans::NO_PLAN;
 use plans::Outcome;
 use plans::SinglePlan;
 use plans::SinglePlanned;
-
-// 6: "no book entry under the key, or a staged total, nt or variables n above the lot size"
-const NO_PLAN: u8 = 6;
 
 const UNDER_REDUCED: u32 = 2;
 

@@ -41,6 +41,7 @@ use Rattle.closing.specs.declared.ClosedAnswer.{ClosedAnswer}
 use Rattle.closing.specs.declared.ClosedAnswer.the-variants as closes
 use Rattle.terminal.specs.Lent.{LetterLeft, PlanLeft, StagedPlanLeft, SequentialPlanLeft, VariablesPlanLeft}
 use Rattle.terminal.specs.Lent.{OutcomeLeft, VerdictTold, VerdictLeft, ClosedLeft, NextLeft, ListLeft, ScreenLeft}
+pub use Rattle.sentencing.proofs.Verdicts.{beside-answer}
 
 module _ (bytes : List ℕ) where
   -- the figures of bytes of the right form
@@ -113,12 +114,6 @@ met paper e f = ap paper (sym e) ∙ f
 
 pub told : {R A : Type 0} (paper : R → Answer A) {r x : R} → r ≡ x → paper x ≡ paper r
 told paper e = ap paper (sym e)
-
--- the answer that stands beside a plan
-pub beside-answer : {P A : Type 0} (zeros : P) (planOf : A → P) (r : Beside P A) (a : Answer A)
-    → r ≡ beside zeros planOf a → r .answer ≡ a
-beside-answer {P} {A} zeros planOf r (refused n p) e = ap (λ (b : Beside P A). b .answer) e
-beside-answer {P} {A} zeros planOf r (given x) e = ap (λ (b : Beside P A). b .answer) e
 
 -- what an answer with a plan beside it says: refused, or given that plan
 module _ {P : Type 0} (zeros : P) {o : Outcome} {plan : P} {a : Answer P} where
