@@ -17,6 +17,7 @@ use Rattle.plans.specs.declared.Verdict.{Verdict}
 use Rattle.plans.specs.declared.VerdictAnswer.{VerdictAnswer}
 use Rattle.plans.specs.declared.VerdictAnswer.the-variants as verdicts
 use Rattle.plans.specs.Paper.{verdictPaper, Beside, beside, outcomeOn, verdictOn, itself, zeroPlan}
+use Rattle.plans.proofs.Standing.{beside-answer}
 use Rattle.severity.specs.declared.Record as declared-record
 use Rattle.severity.specs.declared.Stepped.{Stepped}
 use Rattle.severity.specs.declared.Stepped.the-variants as steps
@@ -24,11 +25,6 @@ use Rattle.severity.specs.Paper.{recordPaper, steppedPaper}
 use Rattle.closing.specs.declared.ClosedAnswer.{ClosedAnswer}
 use Rattle.closing.specs.declared.ClosedAnswer.the-variants as closes
 use Rattle.closing.specs.Paper.{judgedOn, entered, unplanned, closedOn, closedPaper, planJudged, planClosed}
-
--- the answer that a plan stands beside
-pub answer-of : {P A : Type 0} (zeros : P) (planOf : A → P) (a : Answer A) → beside zeros planOf a .answer ≡ a
-answer-of zeros planOf (refused n p) = refl
-answer-of zeros planOf (given x) = refl
 
 -- a refusal, with zeros beside it
 pub refused-beside : {P A : Type 0} {zeros plan : P} {n p : ℕ} (planOf : A → P) → plan ≡ zeros
@@ -104,7 +100,7 @@ module _ {P : Type 0} (zeros : P) (counts : Judged P paper.Verdict → Lot) (x :
 module _ (x : Beside Plan (Judged Plan paper.Verdict)) (q : Asked) (total : ℕ) (o : Outcome) (plan : Plan)
     (h : record { answer = outcomeOn o plan; plan = plan } ≡ beside zeroPlan itself (plainPlan q)) where
   planned : outcomeOn o plan ≡ plainPlan q
-  planned = ap (λ (b : Beside Plan Plan). b .answer) h ∙ answer-of zeroPlan itself (plainPlan q)
+  planned = beside-answer zeroPlan itself _ (plainPlan q) h
 
   pub total-refused : (n p : ℕ) → o ≡ outcomes.Refused n p → x ≡ beside zeroPlan planJudged (refused n p)
       → x ≡ beside zeroPlan planJudged (judgeTotal q total)
@@ -126,8 +122,7 @@ module _ (x : Beside Plan (Closed Plan)) (r : Record) (o : Offered) (total : ℕ
   closed-total q b e asked judged k =
       let within : inRange r ≡ true = sym range ∙ e in
       let a : b .answer ≡ judgeTotal (askedOn r o) total =
-      rw (← asked) (ap (λ (z : Beside Plan (Judged Plan paper.Verdict)). z .answer) judged
-      ∙ answer-of zeroPlan planJudged (judgeTotal q total)) in
+      rw (← asked) (beside-answer zeroPlan planJudged b (judgeTotal q total) judged) in
       rw (within, ← a) (rw within at k)
 
   pub closed-out : t ≡ false → x ≡ beside zeroPlan planClosed (refused 1 0)

@@ -1,2 +1,3 @@
+pub mod Lending
+pub mod Listing
 pub mod OneResult
-pub mod Walk

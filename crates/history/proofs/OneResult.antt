@@ -1,13 +1,20 @@
--- The list's promise admits one result, and one state of the buffer that is lent.
+-- Each promise admits one result, and one state of the buffer or the record that is lent.
 -- Assumes nothing.
 use Prim.Native.Nat.{ℕ}
-use mathlib.Core.Path.{_≡_, sym, _∙_}
+use mathlib.Core.Path.{_≡_, sym, ap, _∙_}
 use mathlib.Core.List.{List}
+use Rattle.rules.specs.Refusals.{Answer}
+use Rattle.rules.specs.Severity as paper
 use Rattle.rules.specs.History.{Work}
 use Rattle.rules.proofs.Answers.{refused-given}
+use Rattle.severity.specs.declared.Event.{Event}
+use Rattle.severity.specs.declared.Record.{Record}
+use Rattle.severity.specs.declared.Stepped.{Stepped}
+use Rattle.severity.specs.Paper.{recordPaper, steppedPaper}
+use Rattle.severity.proofs.OneResult.{record-one, stepped-one}
 use Rattle.history.specs.declared.Listed.{Listed}
 use Rattle.history.specs.declared.Listed.the-variants.{Refused, Given}
-use Rattle.history.specs.Paper.{listedPaper, Lists}
+use Rattle.history.specs.Paper.{listedPaper, Lists, keptOf, Closes}
 
 pub listed-one : (a b : Listed) → listedPaper a ≡ listedPaper b → a ≡ b
 listed-one (Refused n k) (Refused m j) e = cc
@@ -19,3 +26,12 @@ listed-one (Given n) (Given m) e = cc
 pub lists-one : (w : Work) (h out last last′ : List ℕ) (r r′ : Listed) → Lists w h out last r → Lists w h out last′ r′
     → (r ≡ r′) × (last ≡ last′)
 lists-one w h out last last′ r r′ c d = (listed-one r r′ (c .answer ∙ sym (d .answer)), c .buffer ∙ sym (d .buffer))
+
+-- of close_lot: the answer, and the lent record
+pub closes-one : (old : Record) (e : Event) (new new′ : Record) (r r′ : Stepped) → Closes old e new r
+    → Closes old e new′ r′ → (r ≡ r′) × (new ≡ new′)
+closes-one old e new new′ r r′ c d =
+    let f : steppedPaper r ≡ steppedPaper r′ = c .answer ∙ sym (d .answer) in (
+      stepped-one r r′ f,
+      record-one new new′ (c .left ∙ (ap (λ (a : Answer paper.Record). keptOf a (recordPaper old)) f ∙ sym (d .left))),
+    )

@@ -1,8 +1,8 @@
-// The list of a history's severities, for any work.
+// What a supply's record is kept by: the list of a history's severities, for any work, and the record lent.
 ghost use mathlib.Core.Path.{_≡_};
-ghost use mathlib.Core.Bool.{true};
-ghost use Rattle.severity.specs.Paper.{workPaper, recordPaper};
-ghost use Rattle.history.specs.Paper.{Writable, Walks, Lists};
+ghost use Rattle.severity.specs.Paper.{workPaper, recordPaper, steppedPaper};
+ghost use Rattle.history.specs.Paper.{Lists, keptOf, Closes};
+use severity::Event;
 use severity::Record;
 use severity::Stepped;
 use severity::Work;
@@ -16,45 +16,41 @@ pub enum Listed {
     Given(usize),
 }
 
-// A history that goes on from a record, checked or written: one loop for both, so that the step is compiled into it.
-fn walk_history(work: Work, history: &[u8], out: &mut [u8], from: Record, writes: bool) -> Listed
-    requires { ⌜ (writes ≡ true → Writable (workPaper work) (recordPaper from) (now history) (now out)) ⌝ }
-    ensures { λ r. ⌜ Walks (workPaper work) (recordPaper from) (now (history .entry)) writes (now (out .entry))
-        (now (out .exit)) r ⌝ }
-{
-    let mut held = from;
-    let mut i: usize = 0;
-    while i < history.len() {
-        let answer = severity::step_byte(work, held, history[i]);
-        match answer {
-            Stepped::Given(new) => {
-                held = new;
-            }
-            Stepped::Refused(number, _) => {
-                return Listed::Refused(number, i);
-            }
-        }
-        if writes {
-            out[i] = held.severity;
-        }
-        i += 1;
-    }
-    Listed::Given(i)
-}
-
-// "From a fresh record, the severity after each byte is written to a lent buffer, the rest of which stays."
+// "From a fresh record, the severity after each byte is written to a lent buffer, the rest of which stays": the
+// history is walked once to find it good, with the buffer out of reach, and once to write.
 pub fn list_severities(work: Work, history: &[u8], out: &mut [u8]) -> Listed
     ensures { λ r. ⌜ Lists (workPaper work) (now (history .entry)) (now (out .entry)) (now (out .exit)) r ⌝ }
 {
     let first = severity::fresh(work);
-    let checked = walk_history(work, history, out, first, false);
-    match checked {
-        Listed::Refused(number, place) => Listed::Refused(number, place),
-        Listed::Given(count) => {
-            if out.len() < count {
+    let mut unread = [0u8; 1];
+    match severity::walk(work, first, history, &mut unread) {
+        Stepped::Refused(number, place) => Listed::Refused(number, place),
+        Stepped::Given(_) => {
+            if out.len() < history.len() {
                 return Listed::Refused(BUFFER_SHORT, 0);
             }
-            walk_history(work, history, out, first, true)
+            severity::walk(work, first, history, out);
+            Listed::Given(history.len())
         }
     }
+}
+
+// The record to keep after an answer: a refusal leaves it as it was.
+fn kept(answer: Stepped, old: Record) -> Record
+    ensures { λ r. ⌜ recordPaper r ≡ keptOf (steppedPaper answer) (recordPaper old) ⌝ }
+{
+    match answer {
+        Stepped::Given(new) => new,
+        Stepped::Refused(_, _) => old,
+    }
+}
+
+// "The bench keeps one supply record and updates it as each lot closes": the lent form of `update`.
+pub fn close_lot(supply: &mut Record, event: Event) -> Stepped
+    ensures { λ r. ⌜ Closes (now (supply .entry)) event (now (supply .exit)) r ⌝ }
+{
+    let old = *supply;
+    let answer = severity::update(old, event);
+    *supply = kept(answer, old);
+    answer
 }

@@ -20,7 +20,7 @@ use Rattle.closing.specs.declared.Closed.{Closed}
 use Rattle.closing.specs.declared.ClosedAnswer.the-variants as closes
 use Rattle.closing.specs.declared.SingleClosed.{SingleClosed}
 use Rattle.closing.specs.Paper.{offeredPaper, closedBeside, planClosed}
-use Rattle.closing.proofs.Closing.{answer-of}
+use Rattle.plans.proofs.Standing.{beside-answer}
 use Rattle.lotforms.specs.declared.Line.{Line}
 use Rattle.lotforms.specs.declared.Line.the-variants.{Lot, Order, Unknown}
 use Rattle.lotforms.specs.Reading.{linePaper, formOf}
@@ -72,8 +72,7 @@ module _ (w : Work) (supply : Record) (line : ℕ) {out last : List ℕ} {r : Lo
   unfolding loggedAs
   lot-said closed lot {total} e f l =
       let g : closedBeside closed .answer ≡ closeTotal (recordPaper supply) (offeredPaper lot) total
-      = ap (λ b. b .answer) f ∙ answer-of zeroPlan planClosed
-      (closeTotal (recordPaper supply) (offeredPaper lot) total) in
+      = beside-answer zeroPlan planClosed _ _ f in
       rw e (rw g at l)
 
   pub order-said : (answer : Stepped) {said : Line} {byte : ℕ} → said ≡ Order byte

@@ -3,39 +3,19 @@
 use Prim.Native.Nat.{ℕ, _+_, _-_, _≤_, _<_}
 use native.Mathlib.Omega.{arith}
 use mathlib.Core.Path.{_≡_, refl, ap, sym, _∙_}
-use mathlib.Core.Bool.{Bool, true, false}
-use mathlib.Core.List.{List, [], _∷_, _++_, append-assoc}
-use lib.Dec.{eqb}
+use mathlib.Core.List.{List, _++_, append-assoc}
 use lib.ListN.{length, take, drop, take-append-drop, length-drop}
 use lib.Seq.{drop-drop}
 use Rattle.rules.specs.History.{Work, ours}
-use Rattle.rules.specs.Log.{newline, header, log}
-use Rattle.rules.specs.Feeding.{Held, holding, oneMore, afterLine, starting, fed, finished, tookIn}
-use Rattle.rules.specs.Feeding.{saidIn}
-use Rattle.rules.proofs.Feeding.{any-calls, some-taken, taken-within}
+use Rattle.rules.specs.Log.{header, log}
+use Rattle.rules.specs.Feeding.{Held, starting, fed, finished, onwards}
+use Rattle.rules.proofs.Feeding.{fed-onwards, all-onwards, some-taken, taken-within}
 use Rattle.lotlines.specs.declared.State.{State}
 use Rattle.lotlines.specs.declared.Fed.{Fed}
 use Rattle.lottexts.specs.Printing.{Puts}
 use Rattle.lotlines.specs.Paper.{Starts, Feeds}
-use Rattle.lotstream.specs.Turns.{singly, onwards, Logs}
+use Rattle.lotstream.specs.Turns.{Logs}
 use Rattle.lotstream.specs.declared.Turn.{Turn}
-
-fed-onwards : (w : Work) (s : Held) (p q : List ℕ)
-    → onwards w s (take (fed w s p .taken) p ++ q) ≡ fed w s p .text ++ onwards w (fed w s p .kept) q
-unfolding fed saidIn singly
-fed-onwards w s [] q = refl
-fed-onwards w s (b ∷ bs) q =
-    go (eqb b newline) refl (fed-onwards w (holding (s .supply) (s .line) (oneMore (s .begun) b)) bs q)
-  where
-    go : (t : Bool) → eqb b newline ≡ t
-        → onwards w (holding (s .supply) (s .line) (oneMore (s .begun) b))
-        (take (fed w (holding (s .supply) (s .line) (oneMore (s .begun) b)) bs .taken) bs ++ q)
-        ≡ fed w (holding (s .supply) (s .line) (oneMore (s .begun) b)) bs .text
-        ++ onwards w (fed w (holding (s .supply) (s .line) (oneMore (s .begun) b)) bs .kept) q
-        → onwards w s (take (fed w s (b ∷ bs) .taken) (b ∷ bs) ++ q)
-        ≡ fed w s (b ∷ bs) .text ++ onwards w (fed w s (b ∷ bs) .kept) q
-    go true e h = simp e
-    go false e h = simp e h
 
 -- a line, and then the rest of the piece and what comes after it
 pub line-onwards : (w : Work) (s : Held) (p more : List ℕ)
@@ -60,21 +40,6 @@ pub line-taken : (w : Work) (s : Held) (piece part : List ℕ) (at : ℕ) → pa
 line-taken w s piece part at e h =
     let long : length part ≡ length piece - at = ap length e ∙ length-drop at piece in
     (some-taken w s part (omega (arith, long)), omega (arith, long, taken-within w s part))
-
-took-bytes : (w : Work) (s : Held) (l : List ℕ) → tookIn w s (singly l) ≡ l
-unfolding tookIn fed singly
-took-bytes w s [] = refl
-took-bytes w s (b ∷ bs) = go (eqb b newline) refl (λ t. took-bytes w t bs)
-  where
-    go : (t : Bool) → eqb b newline ≡ t → ((q : Held) → tookIn w q (singly bs) ≡ bs)
-        → tookIn w s (singly (b ∷ bs)) ≡ b ∷ bs
-    go true e h = simp e (ap (λ (l : List ℕ). b ∷ l) (h (afterLine w s)))
-    go false e h =
-        simp e (ap (λ (l : List ℕ). b ∷ l) (h (holding (s .supply) (s .line) (oneMore (s .begun) b))))
-
--- from the start: the whole log
-pub all-onwards : (w : Work) (input : List ℕ) → header ++ onwards w (starting w) input ≡ log w input
-all-onwards w input = any-calls w (singly input) ∙ ap (log w) (took-bytes w (starting w) input)
 
 -- Our work, by its name.
 pub starts-ours : {w : Work} {s : State} → w ≡ ours → Starts w s → Starts ours s

@@ -11,11 +11,11 @@ use lib.Dec.{T, ltb, eqb}
 use lib.ListN.{length, take, drop}
 use lib.Seq.{drop-nil}
 use Rattle.rules.specs.History.{ours}
-use Rattle.rules.specs.Feeding.{Held, finished, saidIn}
+use Rattle.rules.specs.Feeding.{Held, finished, onwards}
 use Rattle.lotlines.specs.declared.State.{State}
 use Rattle.lottexts.specs.Printing.{lineRoom}
 use Rattle.lotlines.specs.Paper.{heldPaper}
-use Rattle.lotstream.specs.Turns.{Opened, singly, onwards, waits, left, toCome, Logs, LastPut, Written}
+use Rattle.lotstream.specs.Turns.{Opened, waits, left, toCome, Logs, LastPut, Written}
 use Rattle.lotstream.specs.Turns.{brought, Got}
 use Rattle.lotstream.specs.Runs.{leastRoom, Scene, scene, Fits, writes, reads, unwritten, Turned, Ran, Running}
 use Rattle.lotstream.specs.Runs.{mostTurns, Ended, Runs}
@@ -30,7 +30,7 @@ over-none true n e = never e refl
 over-none false n e = eqb-true n 0 e
 
 none-onwards : (s : Held) → onwards ours s [] ≡ finished ours s
-unfolding saidIn singly
+unfolding onwards
 none-onwards s = refl
 
 module _ {t : Turn} {input out : List ℕ} (first : Fits (scene t input out)) {sent : Turn} (w : Written t sent) where

@@ -7,9 +7,10 @@ use mathlib.Core.Logic.{_⊎_}
 use lib.Dec.{ltb, eqb}
 use lib.ListN.{length, take}
 use Rattle.rules.specs.History.{ours}
+use Rattle.rules.specs.Feeding.{onwards}
 use Rattle.lottexts.specs.Printing.{lineRoom}
 use Rattle.lotlines.specs.Paper.{heldPaper, Starts}
-use Rattle.lotstream.specs.Turns.{Opened, onwards, waits, left, brought}
+use Rattle.lotstream.specs.Turns.{Opened, waits, left, brought}
 use Rattle.lotstream.specs.declared.Turn.{Turn}
 
 -- the least output to work in: room for the header, and for another line

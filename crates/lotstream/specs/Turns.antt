@@ -12,7 +12,7 @@ use lib.Signed.{ltZ}
 use Rattle.io.specs.Counts.{clamped}
 use Rattle.rules.specs.History.{Work, ours}
 use Rattle.rules.specs.Log.{log}
-use Rattle.rules.specs.Feeding.{Held, finished, saidIn}
+use Rattle.rules.specs.Feeding.{Held, finished, onwards}
 use Rattle.lotlines.specs.Paper.{heldPaper}
 use Rattle.lotstream.specs.declared.Turn.{Turn}
 
@@ -20,15 +20,6 @@ use Rattle.lotstream.specs.declared.Turn.{Turn}
 pub record PutAfter (waiting : ℕ) (text out last : List ℕ) (r : ℕ) : Type 0 where
   pub next : r ≡ waiting + length text
   pub stored : last ≡ sets out waiting text
-
--- a byte a call
-unfoldable pub singly : List ℕ → List (List ℕ)
-singly [] = []
-singly (b ∷ bs) = (b ∷ []) ∷ singly bs
-
--- the output for all the bytes that are still to come, from what is held
-abbrev pub onwards : Work → Held → List ℕ → List ℕ
-onwards w s bytes = saidIn w s (singly bytes)
 
 abbrev pub waits : Turn → List ℕ → List ℕ
 waits t output = take (t .waiting) output

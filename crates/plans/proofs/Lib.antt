@@ -2,3 +2,4 @@ pub mod Arrows
 pub mod Letters
 pub mod Master
 pub mod OneResult
+pub mod Standing

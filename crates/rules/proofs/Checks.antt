@@ -45,17 +45,21 @@ module _ {A : Type 0} (x : Answer A) (a : A) where
       given-past (λ t. cond t (refused (c .number) (c .place)) (firstOf cs y) ≡ y) (c .wrong) (c .number) (c .place)
       (firstOf cs x) a e (passed cs y)
 
-kept-at : {A B : Type 0} (t : Bool) (k q n p : ℕ) (x : Answer A) (y : Answer B) → (x ≡ refused n p → y ≡ refused n p)
+alike-at : {A B : Type 0} (t : Bool) (k q n p : ℕ) (x : Answer A) (y : Answer B) → (x ≡ refused n p → y ≡ refused n p)
     → cond t (refused k q) x ≡ refused n p → cond t (refused k q) y ≡ refused n p
-kept-at true k q n p x y f e = cc
-kept-at false k q n p x y f e = f e
+alike-at true k q n p x y f e = cc
+alike-at false k q n p x y f e = f e
 
--- .. and checks that refuse one refuse each, by the same number
+-- .. and checks that refuse one answer, or let its refusal through, refuse each by the same number, if that does
+pub checks-alike : {A B : Type 0} (cs : List Check) (n p : ℕ) (x : Answer A) (y : Answer B)
+    → (x ≡ refused n p → y ≡ refused n p) → firstOf cs x ≡ refused n p → firstOf cs y ≡ refused n p
+checks-alike [] n p x y f e = f e
+checks-alike (c ∷ cs) n p x y f e =
+    alike-at (c .wrong) (c .number) (c .place) n p (firstOf cs x) (firstOf cs y) (checks-alike cs n p x y f) e
+
 pub kept : {A B : Type 0} (cs : List Check) (a : A) (n p : ℕ) (y : Answer B) → firstOf cs (given a) ≡ refused n p
     → firstOf cs y ≡ refused n p
-kept [] a n p y e = absurd (refused-given (sym e))
-kept (c ∷ cs) a n p y e =
-    kept-at (c .wrong) (c .number) (c .place) n p (firstOf cs (given a)) (firstOf cs y) (kept cs a n p y) e
+kept cs a n p y e = checks-alike cs n p (given a) y (λ q. absurd (refused-given (sym q))) e
 
 pub plannable : {A : Type 0} (q : Asked) (x : Answer A) (a : A) → firstOf (askedChecks q) x ≡ given a → Plannable q
 unfolding wrongAt

@@ -14,19 +14,11 @@ use Rattle.rules.specs.Log.{splitAt, newline, space, droppingEmptyLast, 
 use Rattle.rules.specs.Log.{lineAfter, logFrom, header, log}
 use Rattle.rules.specs.Feeding.{upTo, Begun, soFar, tooLong, longestLine, oneMore, lineBegun, Held}
 use Rattle.rules.specs.Feeding.{holding, starting, ended, afterLine, Fed, oneTaken, fed, finished, tookIn}
-use Rattle.rules.specs.Feeding.{saidIn, offers}
-use Rattle.rules.specs.Feeding.{heldAfter, allOffers}
+use Rattle.rules.specs.Feeding.{onwards, saidIn, offers, heldAfter, allOffers}
 use Rattle.rules.proofs.Bounded.{by-le}
 use Rattle.rules.proofs.LineForms.{restAt, split-first, long-unknown}
 
--- the output for all that is still to come
-unfoldable onwards : Work → Held → List ℕ → List ℕ
-onwards w s [] = finished w s
-onwards w s (b ∷ bs) =
-    cond (eqb b newline) (ended w s .text ++ onwards w (afterLine w s) bs)
-    (onwards w (holding (s .supply) (s .line) (oneMore (s .begun) b)) bs)
-
-fed-onwards : (w : Work) (s : Held) (p q : List ℕ)
+pub fed-onwards : (w : Work) (s : Held) (p q : List ℕ)
     → onwards w s (take (fed w s p .taken) p ++ q) ≡ fed w s p .text ++ onwards w (fed w s p .kept) q
 unfolding fed onwards
 fed-onwards w s [] q = refl
@@ -136,17 +128,20 @@ onwards-lines w r n l (b ∷ bs) =
         ∙ ap (λ (z : List ℕ). logFrom w n r (droppingEmptyLast (z ∷ restAt newline bs)))
         (append-assoc l (b ∷ []) (upTo newline bs)))
 
+-- from the start: the whole log
+pub all-onwards : (w : Work) (input : List ℕ) → header ++ onwards w (starting w) input ≡ log w input
+unfolding log
+all-onwards w input =
+    ap (λ (z : List ℕ). header ++ z)
+    (onwards-lines w (fresh (w .permission)) 1 [] input
+    ∙ sym
+    (ap (λ (z : List (List ℕ)). logFrom w 1 (fresh (w .permission)) (droppingEmptyLast z)) (split-first newline input)))
+
 -- However the input is cut, and however often each piece is offered: the whole output is the log of the bytes taken.
 pub any-calls : (w : Work) (ps : List (List ℕ))
     → header ++ saidIn w (starting w) ps ≡ log w (tookIn w (starting w) ps)
-unfolding log
 any-calls w ps =
-    ap (λ (z : List ℕ). header ++ z)
-    (said-onwards w (starting w) ps
-    ∙ onwards-lines w (fresh (w .permission)) 1 [] (tookIn w (starting w) ps)
-    ∙ sym
-    (ap (λ (z : List (List ℕ)). logFrom w 1 (fresh (w .permission)) (droppingEmptyLast z))
-    (split-first newline (tookIn w (starting w) ps))))
+    ap (λ (z : List ℕ). header ++ z) (said-onwards w (starting w) ps) ∙ all-onwards w (tookIn w (starting w) ps)
 
 -- a piece with bytes has at least one taken
 pub some-taken : (w : Work) (s : Held) (p : List ℕ) → 0 < length p → 0 < fed w s p .taken

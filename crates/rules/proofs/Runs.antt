@@ -1,7 +1,7 @@
 -- A run of calls: what each call records, and that the run, refused calls dropped, is the history of the events that
 -- its calls stand for, and of their bytes.
 -- Assumes nothing.
-use Prim.Native.Nat.{ℕ, suc}
+use Prim.Native.Nat.{ℕ, zero, suc}
 use mathlib.Core.Path.{_≡_, refl, sym, ap, _∙_}
 use mathlib.Core.Bool.{Bool, true, false, cond, not}
 use mathlib.Core.List.{List, [], _∷_, _++_, map}
@@ -11,14 +11,14 @@ use borrow.Author.Tests.{le-leb}
 use lib.Dec.{leb}
 use lib.IntN.{ℤ}
 use lib.ListN.{length}
-use Rattle.rules.specs.Refusals.{Answer, refused, given, andThen, unknownForm, notStopped}
+use Rattle.rules.specs.Refusals.{Answer, refused, given, andThen, unknownForm, whileStopped, notStopped}
 use Rattle.rules.specs.Codes.{tightened, stopped}
 use Rattle.rules.specs.Verdict.{Verdict, Judged}
 use Rattle.rules.specs.Severity.{sampled, Lot, addThree, addTwo, scoreZero, notAccepted, Event, lot}
 use Rattle.rules.specs.Severity.{resubmitted, steadyIs, permissionIs, corrective, unknown, Record, fresh, step}
-use Rattle.rules.specs.Severity.{inRange, onCorrective}
+use Rattle.rules.specs.Severity.{started, inRange, onLot, onResubmitted, onCorrective}
 use Rattle.rules.specs.Reading.{severityRead}
-use Rattle.rules.specs.History.{Work, eventOf, eventIn, byteOf, placed, afterFrom, after}
+use Rattle.rules.specs.History.{Work, ours, eventOf, eventIn, byteOf, placed, afterFrom, after, past}
 use Rattle.rules.specs.Book.{Checked, sound, brokenAt, checkBook, onSound}
 use Rattle.rules.specs.Entries.{Asked, Closed, Offered, askedOn, eventFor, singleCounts, stagedCounts}
 use Rattle.rules.specs.Entries.{closedWith, onRecord}
@@ -192,6 +192,50 @@ step-typed r (permissionIs true) = refl
 step-typed r (permissionIs false) = refl
 step-typed r corrective = refl
 step-typed r unknown = refl
+
+-- the bytes of a work that knows them all are the bytes of the list
+known-typed : (e : Event) → eventIn ours (byteOf e) ≡ eventOf (byteOf e)
+unfolding eventIn eventOf
+known-typed (lot o addThree) = refl
+known-typed (lot o addTwo) = refl
+known-typed (lot o scoreZero) = refl
+known-typed (lot o notAccepted) = refl
+known-typed resubmitted = refl
+known-typed (steadyIs true) = refl
+known-typed (steadyIs false) = refl
+known-typed (permissionIs true) = refl
+known-typed (permissionIs false) = refl
+known-typed corrective = refl
+known-typed unknown = refl
+
+-- of two answers that stand at the first place
+either : (b : Bool) (x y : Answer Record) → placed 0 x ≡ x → placed 0 y ≡ y → placed 0 (cond b x y) ≡ cond b x y
+either true x y p q = p
+either false x y p q = q
+
+-- a refused event stands at no other place than the first
+step-place : (r : Record) (e : Event) → placed 0 (step r e) ≡ step r e
+unfolding step onLot onResubmitted onCorrective
+step-place r (lot o l) = go (r .severity)
+  where
+    go : (s : ℕ) → placed 0 (onLot s l r) ≡ onLot s l r
+    go zero = refl
+    go (suc zero) = refl
+    go (suc (suc zero)) = refl
+    go (suc (suc (suc s))) = refl
+step-place r resubmitted = either (leb stopped (r .severity)) (refused whileStopped 0) (given r) refl refl
+step-place r (steadyIs b) = refl
+step-place r (permissionIs b) = refl
+step-place r corrective =
+    either (leb stopped (r .severity)) (given (started tightened (r .steady) (r .permission))) (refused notStopped 0)
+    refl
+    refl
+step-place r unknown = refl
+
+-- An event moves a record as a history of its byte alone does.
+pub one-byte : (r : Record) (e : Event) → afterFrom r (past ours (byteOf e ∷ []) 1) ≡ step r e
+unfolding afterFrom past
+one-byte r e = rw (known-typed e, step-typed r e) (step-place r e)
 
 length-typed : (es : List Event) → length (typedAgain es) ≡ length es
 length-typed [] = refl

@@ -156,10 +156,6 @@ module _ (k : Kind) (before e : List ℕ) where
   unfolding keyFalls
   falls-is h = rw (le-leb (k .key) (length e) h)
 
--- the first entry's key rises
-pub rises-first : (k : Kind) (e : List ℕ) → 0 < k .key → k .key ≤ length e → rises [] (keyOf k e) ≡ true
-rises-first k e h l = rises-none [] (take (k .key) e) 0 (omega arith) (rw (length-take-le (k .key) e l) h)
-
 module _ (k : Kind) (before e : List ℕ) where
   pub entry-falls : keyFalls k before e ≡ true → entry k before e ≡ broken 0
   unfolding entry

@@ -73,6 +73,13 @@ fed w s (b ∷ bs) =
 abbrev pub finished : Work → Held → List ℕ
 finished w s = cond (isBegun (s .begun)) (ended w s .text) []
 
+-- the output for all the bytes that are still to come, from what is held
+unfoldable pub onwards : Work → Held → List ℕ → List ℕ
+onwards w s [] = finished w s
+onwards w s (b ∷ bs) =
+    cond (eqb b newline) (ended w s .text ++ onwards w (afterLine w s) bs)
+    (onwards w (holding (s .supply) (s .line) (oneMore (s .begun) b)) bs)
+
 -- A run of calls, a piece offered to each: the bytes that they took, and what they printed with what finishing printed.
 unfoldable pub tookIn : Work → Held → List (List ℕ) → List ℕ
 tookIn w s [] = []

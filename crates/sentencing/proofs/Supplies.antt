@@ -3,12 +3,11 @@
 -- Assumes nothing.
 use Prim.Native.Nat.{ℕ, _≤_, _<_}
 use mathlib.Core.Path.{_≡_, refl, sym, ap, _∙_}
-use mathlib.Core.Bool.{Bool, true, false, cond}
-use mathlib.Core.List.{List, [], _∷_}
+use mathlib.Core.List.{List}
 use native.Mathlib.Omega.{arith}
 use borrow.Author.Tests.{ne-eqb, eq-eqb, lt-ltb, le-ltb}
 use lib.ListN.{length, drop}
-use Rattle.rules.specs.Refusals.{Answer, refused, given, Check, firstOf, andThen}
+use Rattle.rules.specs.Refusals.{Answer, refused, given, firstOf, andThen}
 use Rattle.rules.specs.Codes.{letterOf}
 use Rattle.rules.specs.Numbers.{numbersOf}
 use Rattle.rules.specs.Single.{Plan, cutTo}
@@ -18,7 +17,7 @@ use Rattle.rules.specs.Layout.{entryOf}
 use Rattle.rules.specs.Entries.{Asked, askedChecks, askedLetter, lookedUp, fromEntry, unlessAbove, Lettered, lettered}
 use Rattle.rules.specs.Entries.{reducedPlan, singlePlan, plainPlan}
 use Rattle.rules.proofs.Answers.{refused-given, given-one, then-given}
-use Rattle.rules.proofs.Checks.{Plannable, asked-kept, asked-passed, asked-letter}
+use Rattle.rules.proofs.Checks.{Plannable, checks-alike, asked-kept, asked-passed, asked-letter}
 use Rattle.rules.proofs.EntryLaws.{lot-passes, lot-given, sound-given}
 use Rattle.book.specs.Places.{placeHeld}
 use Rattle.book.proofs.PlaceLaws.{on-refused, on-place, place-near}
@@ -41,18 +40,6 @@ pub sound-first : {A : Type 0} (c : Checked) (a : Answer A)
     → _≡_ {A = Answer (Unit {0})} (given tt) (onSound c (given tt)) → a ≡ onSound c a
 sound-first sound a e = refl
 sound-first (brokenAt byte) a e = absurd (refused-given (sym e))
-
--- checks that refuse one answer, or let the same refusal through, refuse another alike
-alike-at : {A B : Type 0} (t : Bool) (k q n p : ℕ) (x : Answer A) (y : Answer B) → (x ≡ refused n p → y ≡ refused n p)
-    → cond t (refused k q) x ≡ refused n p → cond t (refused k q) y ≡ refused n p
-alike-at true k q n p x y f e = cc
-alike-at false k q n p x y f e = f e
-
-checks-alike : {A B : Type 0} (cs : List Check) (n p : ℕ) (x : Answer A) (y : Answer B)
-    → (x ≡ refused n p → y ≡ refused n p) → firstOf cs x ≡ refused n p → firstOf cs y ≡ refused n p
-checks-alike [] n p x y f e = f e
-checks-alike (c ∷ cs) n p x y f e =
-    alike-at (c .wrong) (c .number) (c .place) n p (firstOf cs x) (firstOf cs y) (checks-alike cs n p x y f) e
 
 refused-then : {A B : Type 0} (a : Answer A) (f : A → B) (n p : ℕ) → andThen a (λ x. given (f x)) ≡ refused n p
     → a ≡ refused n p

@@ -26,14 +26,9 @@ use Rattle.plans.specs.declared.Outcome.the-variants as outcomes
 use Rattle.plans.specs.declared.VerdictAnswer.{VerdictAnswer}
 use Rattle.plans.specs.declared.VerdictAnswer.the-variants as verdicts
 use Rattle.plans.specs.Paper.{Beside, beside, outcomeOn, verdictAnswer, verdictOn, itself}
+use Rattle.plans.proofs.Standing.{beside-answer}
 use Rattle.sentencing.specs.Paper.{withoutLetter, planned}
 use Rattle.sentencing.proofs.Supplies.{refused-alike, checked-once}
-
--- what stands beside an answer leaves the answer
-pub beside-answer : {P A : Type 0} (zeros : P) (planOf : A → P) (r : Beside P A) (a : Answer A)
-    → r ≡ beside zeros planOf a → r .answer ≡ a
-beside-answer {P} {A} zeros planOf r (refused n p) e = ap (λ (b : Beside P A). b .answer) e
-beside-answer {P} {A} zeros planOf r (given x) e = ap (λ (b : Beside P A). b .answer) e
 
 -- a refusal, with zeros and no letter beside it
 pub unplanned-beside : {P : Type 0} {zeros plan : P} {n p : ℕ} → plan ≡ zeros

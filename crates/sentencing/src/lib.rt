@@ -16,6 +16,7 @@ pub use closings::close_single;
 pub use closings::close_staged;
 pub use gauge::screen;
 use history::Listed;
+pub use history::close_lot;
 pub use judging::SequentialJudged;
 pub use judging::StagedJudged;
 pub use judging::VariablesJudged;
@@ -32,7 +33,6 @@ pub use planning::staged_plan;
 pub use planning::variables_plan;
 use severity::Record;
 use severity::Stepped;
-pub use severity::close_lot;
 
 // What a history byte makes of a record.
 pub fn next(old: Record, byte: u32) -> Stepped

@@ -22,10 +22,7 @@ use Rattle.severity.specs.declared.Lot.the-variants as lots
 use Rattle.severity.specs.declared.Origin as declared-origin
 use Rattle.severity.specs.declared.Event as declared-event
 use Rattle.severity.specs.declared.Event.the-variants as events
-use Rattle.severity.specs.declared.Record as declared-record
-use Rattle.severity.specs.declared.Stepped as declared-stepped
-use Rattle.severity.specs.declared.Stepped.the-variants as answers
-use Rattle.severity.specs.Paper.{lotPaper, eventPaper, recordPaper, steppedPaper, keptOf}
+use Rattle.severity.specs.Paper.{lotPaper, eventPaper}
 
 -- normal, after an original lot or an order
 module _ (sc : ℕ) (st pe : Bool) where
@@ -305,12 +302,3 @@ module _ (w : Work) (b : ℕ) where
       rw (lt-leb b 9 (past-nine (past-four n0 n1 n2 n3 n4) n5 n6 n7 n8 n9))
 
 pub ruleset bytes = (byte-is, byte-again, byte-unknown)
-
--- the record that is kept
-module _ (a : declared-stepped.Stepped) (r : declared-record.Record) where
-  pub kept-given : (t : declared-record.Record) → a ≡ answers.Given t
-      → recordPaper t ≡ keptOf (steppedPaper a) (recordPaper r)
-  kept-given t e = rw e
-
-  pub kept-refused : (n k : ℕ) → a ≡ answers.Refused n k → recordPaper r ≡ keptOf (steppedPaper a) (recordPaper r)
-  kept-refused n k e = rw e

@@ -1,7 +1,10 @@
 -- Each promise of a public function admits one result, and one state of the memory that is lent: document 01's value
 -- tells the code's.
 -- Assumes nothing.
+use Prim.Native.Nat.{ℕ}
 use mathlib.Core.Path.{_≡_, refl, sym, ap, _∙_}
+use mathlib.Core.List.{List}
+use lib.ListN.{length}
 use Rattle.rules.specs.Refusals.{Answer}
 use Rattle.rules.specs.Severity as paper
 use Rattle.rules.specs.History as histories
@@ -16,8 +19,8 @@ use Rattle.severity.specs.declared.Event.{Event}
 use Rattle.severity.specs.declared.Event.the-variants as event
 use Rattle.severity.specs.declared.Stepped.{Stepped}
 use Rattle.severity.specs.declared.Stepped.the-variants as stepped
-use Rattle.severity.specs.Paper.{workPaper, lotPaper, originPaper, eventPaper, recordPaper, steppedPaper, keptOf}
-use Rattle.severity.specs.Paper.{Closes}
+use Rattle.severity.specs.Paper.{workPaper, lotPaper, originPaper, eventPaper, recordPaper, steppedPaper}
+use Rattle.severity.specs.Paper.{writtenFrom, takenBy, Walks}
 
 abbrev workBack : histories.Work → Work
 workBack w = record { permission = w .permission; resubmission = w .resubmission }
@@ -82,18 +85,19 @@ event-back event.Unknown = refl
 pub event-one : (a b : Event) → eventPaper a ≡ eventPaper b → a ≡ b
 event-one = read-back eventPaper eventBack event-back
 
--- of update, next and step_byte
+-- of update and next
 pub stepped-one : (a b : Stepped) → steppedPaper a ≡ steppedPaper b → a ≡ b
 stepped-one (stepped.Refused n k) (stepped.Refused m j) e = cc
 stepped-one (stepped.Refused n k) (stepped.Given s) e = absurd (refused-given e)
 stepped-one (stepped.Given r) (stepped.Refused m j) e = absurd (refused-given (sym e))
 stepped-one (stepped.Given r) (stepped.Given s) e = ap stepped.Given (record-one r s (given-one e))
 
--- of close_lot: the answer, and the lent record
-pub closes-one : (old : Record) (e : Event) (new new′ : Record) (r r′ : Stepped) → Closes old e new r
-    → Closes old e new′ r′ → (r ≡ r′) × (new ≡ new′)
-closes-one old e new new′ r r′ c d =
+-- of walk: the answer, and the lent buffer
+pub walks-one : (w : histories.Work) (start : paper.Record) (h out last last′ : List ℕ) (r r′ : Stepped)
+    → Walks w start h out last r → Walks w start h out last′ r′ → (r ≡ r′) × (last ≡ last′)
+walks-one w start h out last last′ r r′ c d =
     let f : steppedPaper r ≡ steppedPaper r′ = c .answer ∙ sym (d .answer) in (
       stepped-one r r′ f,
-      record-one new new′ (c .left ∙ (ap (λ (a : Answer paper.Record). keptOf a (recordPaper old)) f ∙ sym (d .left))),
+      c .buffer ∙ (ap (λ (a : Answer paper.Record). writtenFrom w start h out (takenBy a (length h))) f
+          ∙ sym (d .buffer)),
     )

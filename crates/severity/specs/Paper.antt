@@ -1,10 +1,12 @@
 -- Document 01's numbers and values for each case of the types of this crate, and what its functions promise in them.
 -- Definitions only.
+use Prim.Native.Nat.{ℕ, zero, suc, _≤_}
 use mathlib.Core.Path.{_≡_}
+use mathlib.Core.List.{List}
+use lib.ListN.{length, set}
 use Rattle.rules.specs.Refusals.{Answer, refused, given}
 use Rattle.rules.specs.Severity as paper
 use Rattle.rules.specs.History as histories
-use Rattle.rules.specs.Entries.{onRecord}
 use Rattle.severity.specs.declared.Work.{Work}
 use Rattle.severity.specs.declared.Lot.{Lot}
 use Rattle.severity.specs.declared.Lot.the-variants.{AddThree, AddTwo, ScoreZero, NotAccepted}
@@ -53,12 +55,32 @@ abbrev pub steppedPaper : Stepped → Answer paper.Record
 steppedPaper (stepped.Refused n k) = refused n k
 steppedPaper (stepped.Given r) = given (recordPaper r)
 
--- the record that is kept after an answer: "A refusal .. writes nothing"
-abbrev pub keptOf : Answer paper.Record → paper.Record → paper.Record
-keptOf (refused n k) r = r
-keptOf (given t) r = t
+-- the severity of a record that is given; a history that is refused writes none
+abbrev pub severityOf : Answer paper.Record → ℕ
+severityOf (refused n k) = 0
+severityOf (given r) = r .severity
 
--- The lent record's whole promise: the answer, and the record then.
-pub record Closes (old : Record) (e : Event) (new : Record) (r : Stepped) : Type 0 where
-  pub answer : steppedPaper r ≡ onRecord (recordPaper old) (paper.step (recordPaper old) (eventPaper e))
-  pub left : recordPaper new ≡ keptOf (steppedPaper r) (recordPaper old)
+-- A history that goes on from a record: its severities after the first i bytes, written to a buffer, as far as that
+-- reaches.
+unfoldable pub writtenFrom : histories.Work → paper.Record → List ℕ → List ℕ → ℕ → List ℕ
+writtenFrom w r h out zero = out
+writtenFrom w r h out (suc i) =
+    set (writtenFrom w r h out i) i (severityOf (histories.afterFrom r (histories.past w h (suc i))))
+
+-- how many of its bytes were taken: all, or those before the first bad one
+abbrev pub takenBy : Answer paper.Record → ℕ → ℕ
+takenBy (refused n k) bytes = k
+takenBy (given r) bytes = bytes
+
+-- what a walk has done before the byte at i, with the record that it then holds
+pub record Walking (w : histories.Work) (start : paper.Record) (h out buffer : List ℕ) (held : paper.Record) (i : ℕ)
+    : Type 0 where
+  pub within : i ≤ length h
+  pub reached : histories.afterFrom start (histories.past w h i) ≡ given held
+  pub left : buffer ≡ writtenFrom w start h out i
+  pub room : length buffer ≡ length out
+
+-- A walk's whole promise: the answer, and what the buffer then holds.
+pub record Walks (w : histories.Work) (start : paper.Record) (h out last : List ℕ) (r : Stepped) : Type 0 where
+  pub answer : steppedPaper r ≡ histories.afterFrom start (histories.past w h (length h))
+  pub buffer : last ≡ writtenFrom w start h out (takenBy (steppedPaper r) (length h))

@@ -1,4 +1,4 @@
-// The severity record of one supply, and what each event makes of it: by value, by its history byte, and lent.
+// The severity record of one supply, and what each event makes of it, by itself or in a history.
 ghost use mathlib.Core.Path.{_≡_};
 ghost use mathlib.Core.Bool.{_&&_};
 ghost use Prim.Native.Nat.{_+_, _≤_, min};
@@ -9,8 +9,7 @@ ghost use Rattle.rules.specs.Severity.{onNormal, onTightened, scoreAndWindow, n
 ghost use Rattle.rules.specs.Severity.{noRunOrCount};
 ghost use Rattle.rules.specs.History.{ours, eventIn, byteOfLot, byteOf};
 ghost use Rattle.rules.specs.Entries.{onRecord, next};
-ghost use Rattle.severity.specs.Paper.{workPaper, lotPaper, eventPaper, recordPaper, steppedPaper, keptOf};
-ghost use Rattle.severity.specs.Paper.{Closes};
+ghost use Rattle.severity.specs.Paper.{workPaper, lotPaper, eventPaper, recordPaper, steppedPaper, Walks};
 
 // The severities.
 pub const NORMAL: u8 = 0;
@@ -357,16 +356,6 @@ pub fn in_range(old: Record) -> bool
     false
 }
 
-// What an event makes of a record that a caller hands over: one out of range is refused.
-pub fn update(old: Record, event: Event) -> Stepped
-    ensures { λ r. ⌜ steppedPaper r ≡ onRecord (recordPaper old) (step (recordPaper old) (eventPaper event)) ⌝ }
-{
-    if in_range(old) {
-        return step(old, event);
-    }
-    Stepped::Refused(UNKNOWN_FORM, 0)
-}
-
 // The event of a history byte.
 fn event_of(work: Work, byte: u32) -> Event
     ensures { λ r. ⌜ eventPaper r ≡ eventIn (workPaper work) byte ⌝ }
@@ -426,36 +415,54 @@ pub fn byte_of(event: Event) -> u8
     }
 }
 
-// What a history byte makes of a record that a caller hands over.
-pub fn next(work: Work, old: Record, byte: u32) -> Stepped
-    ensures { λ r. ⌜ steppedPaper r ≡ next (workPaper work) (recordPaper old) byte ⌝ }
-{
-    update(old, event_of(work, byte))
-}
-
-// A part for the list, whose records are in range: a test at each byte would cost it.
-pub fn step_byte(work: Work, old: Record, byte: u8) -> Stepped
+fn step_byte(work: Work, old: Record, byte: u8) -> Stepped
     ensures { λ r. ⌜ steppedPaper r ≡ step (recordPaper old) (eventIn (workPaper work) byte) ⌝ }
 {
     step(old, event_of(work, byte as u32))
 }
 
-// The record to keep after an answer: a refusal leaves it as it was.
-fn kept(answer: Stepped, old: Record) -> Record
-    ensures { λ r. ⌜ recordPaper r ≡ keptOf (steppedPaper answer) (recordPaper old) ⌝ }
+// A history that goes on from a record: the record after it, and in the lent buffer, as far as that reaches, the
+// severity after each byte. All that moves a record goes through this one loop, so that the step is compiled into it.
+pub fn walk(work: Work, from: Record, history: &[u8], out: &mut [u8]) -> Stepped
+    ensures { λ r. ⌜ Walks (workPaper work) (recordPaper from) (now (history .entry)) (now (out .entry))
+        (now (out .exit)) r ⌝ }
 {
-    match answer {
-        Stepped::Given(new) => new,
-        Stepped::Refused(_, _) => old,
+    let mut held = from;
+    let mut i: usize = 0;
+    while i < history.len() {
+        let answer = step_byte(work, held, history[i]);
+        match answer {
+            Stepped::Given(new) => {
+                held = new;
+            }
+            Stepped::Refused(number, _) => {
+                return Stepped::Refused(number, i);
+            }
+        }
+        if i < out.len() {
+            out[i] = held.severity;
+        }
+        i += 1;
     }
+    Stepped::Given(held)
 }
 
-// "The bench keeps one supply record and updates it as each lot closes": the lent form of `update`.
-pub fn close_lot(supply: &mut Record, event: Event) -> Stepped
-    ensures { λ r. ⌜ Closes (now (supply .entry)) event (now (supply .exit)) r ⌝ }
+// What an event makes of a record that a caller hands over: one out of range is refused, and any other moves as its
+// byte moves it.
+pub fn update(old: Record, event: Event) -> Stepped
+    ensures { λ r. ⌜ steppedPaper r ≡ onRecord (recordPaper old) (step (recordPaper old) (eventPaper event)) ⌝ }
 {
-    let old = *supply;
-    let answer = update(old, event);
-    *supply = kept(answer, old);
-    answer
+    if in_range(old) {
+        let byte = [byte_of(event)];
+        let mut unread = [0u8; 1];
+        return walk(ours(), old, &byte, &mut unread);
+    }
+    Stepped::Refused(UNKNOWN_FORM, 0)
+}
+
+// What a history byte makes of a record that a caller hands over.
+pub fn next(work: Work, old: Record, byte: u32) -> Stepped
+    ensures { λ r. ⌜ steppedPaper r ≡ next (workPaper work) (recordPaper old) byte ⌝ }
+{
+    update(old, event_of(work, byte))
 }

@@ -41,7 +41,7 @@ use Rattle.closing.specs.declared.ClosedAnswer.{ClosedAnswer}
 use Rattle.closing.specs.declared.ClosedAnswer.the-variants as closes
 use Rattle.terminal.specs.Lent.{LetterLeft, PlanLeft, StagedPlanLeft, SequentialPlanLeft, VariablesPlanLeft}
 use Rattle.terminal.specs.Lent.{OutcomeLeft, VerdictTold, VerdictLeft, ClosedLeft, NextLeft, ListLeft, ScreenLeft}
-pub use Rattle.sentencing.proofs.Verdicts.{beside-answer}
+pub use Rattle.plans.proofs.Standing.{beside-answer}
 
 module _ (bytes : List ℕ) where
   -- the figures of bytes of the right form

@@ -10,7 +10,8 @@ use Rattle.rules.specs.Entries.{Asked, askedOn, onRecord, closedWith, singleCou
 use Rattle.plans.specs.Paper.{beside, zeroPlan}
 use Rattle.severity.specs.Paper.{recordPaper}
 use Rattle.closing.specs.Paper.{offeredPaper, planJudged, planClosed}
-use Rattle.sentencing.proofs.Verdicts.{beside-answer, closed-in-range, closed-out-of-range, single-checked}
+use Rattle.plans.proofs.Standing.{beside-answer}
+use Rattle.sentencing.proofs.Verdicts.{closed-in-range, closed-out-of-range, single-checked}
 use borrow.Author.Needs.{needs}
 use Rattle.sentencing.proofs.closings.close_single.Statement.{statement}
 use Rattle.sentencing.proofs.closings.close_single.Tie as tie

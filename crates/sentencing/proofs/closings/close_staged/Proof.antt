@@ -11,7 +11,8 @@ use Rattle.plans.specs.Paper.{beside}
 use Rattle.entry.specs.Paper.{noStages}
 use Rattle.severity.specs.Paper.{recordPaper}
 use Rattle.closing.specs.Paper.{offeredPaper, planJudged, planClosed}
-use Rattle.sentencing.proofs.Verdicts.{beside-answer, closed-in-range, closed-out-of-range, staged-checked}
+use Rattle.plans.proofs.Standing.{beside-answer}
+use Rattle.sentencing.proofs.Verdicts.{closed-in-range, closed-out-of-range, staged-checked}
 use borrow.Author.Needs.{needs}
 use Rattle.sentencing.proofs.closings.close_staged.Statement.{statement}
 use Rattle.sentencing.proofs.closings.close_staged.Tie as tie

@@ -1,6 +1,5 @@
--- `severity::close_lot` meets its contract: a walk of its MIR, by hand. The borrow is opened, the record is copied
--- out and
--- passed to `update`, what `kept` makes of the answer is stored over it, and the borrow is closed at that record.
+-- `history::close_lot` meets its contract: a walk of its MIR, by hand. The borrow is opened, the record is copied out
+-- and passed to `update`, what `kept` makes of the answer is stored over it, and the borrow is closed at that record.
 -- All that the proof knows of `update` and `kept` is that they meet their contracts.
 -- Assumes nothing.
 use mathlib.Core.Path.{_≡_, refl}
@@ -44,28 +43,29 @@ use denote.Triple.Clauses.{ensured, lasts}
 use denote.Exit.{yes}
 use Rattle.rules.specs.Severity.{step}
 use Rattle.rules.specs.Entries.{onRecord}
-use Rattle.severity.specs.Paper.{recordPaper, eventPaper, steppedPaper, keptOf, Closes}
+use Rattle.severity.specs.Paper.{recordPaper, eventPaper, steppedPaper}
+use Rattle.history.specs.Paper.{keptOf, Closes}
 use Rattle.severity.specs.declared.Record.{Record}
 use Rattle.severity.specs.declared.Event.{Event}
 use Rattle.severity.specs.declared.Stepped.{Stepped}
 use Rattle.severity.proofs.Record as T
 use Rattle.severity.proofs.Record.Laws as T′
 use Rattle.severity.proofs.Event as E
 use Rattle.severity.proofs.Event.Laws as E′
 use Rattle.severity.proofs.Stepped as S
 use Rattle.severity.proofs.Stepped.Laws as S′
 use Rattle.severity.proofs.update as update
 use Rattle.severity.proofs.update.Symbol as update-def
 use Rattle.severity.proofs.update.Symbol.{name as #severity·update}
 use Rattle.severity.proofs.update.Met as update-thm
-use Rattle.severity.proofs.kept as kept
-use Rattle.severity.proofs.kept.Symbol as kept-def
-use Rattle.severity.proofs.kept.Symbol.{name as #severity·kept}
-use Rattle.severity.proofs.kept.Met as kept-thm
-use Rattle.severity.proofs.close_lot.Key.{name as #severity·close-lot}
-use Rattle.severity.proofs.close_lot as close
-use Rattle.severity.proofs.close_lot.Statement as stated
-use Rattle.severity.proofs.close_lot.Code as code
+use Rattle.history.proofs.kept as kept
+use Rattle.history.proofs.kept.Symbol as kept-def
+use Rattle.history.proofs.kept.Symbol.{name as #history·kept}
+use Rattle.history.proofs.kept.Met as kept-thm
+use Rattle.history.proofs.close_lot.Key.{name as #history·close-lot}
+use Rattle.history.proofs.close_lot as close
+use Rattle.history.proofs.close_lot.Statement as stated
+use Rattle.history.proofs.close_lot.Code as code
 
 abbrev Arg : Type 0
 Arg = RefT Record × (Event × Unit {0})
@@ -153,7 +153,7 @@ module _ {M : Type 1} (𝓤 : URA M) (H : Heap 𝓤) (A : Atoms 𝓤) (W : Given
 
   module _ (C : Calls 𝓤 H) (Λ : Loops 𝓤 H) (fm : FmC 𝓤 H (W .laws) C)
       (known : Triple 𝓤 (C #severity·update) (Update 𝓤 H A at-mem run))
-      (known′ : Triple 𝓤 (C #severity·kept) (Kept 𝓤 H A at-mem run)) where
+      (known′ : Triple 𝓤 (C #history·kept) (Kept 𝓤 H A at-mem run)) where
     walk : ent 𝓤 (onEntry 𝓤 H A close.signature (κ, tt) (q, tt) x at)
         (WpFn 𝓤 H C Λ code.function (vptr b o ∷ val e ∷ []) Post)
     walk =
@@ -170,8 +170,7 @@ module _ {M : Type 1} (𝓤 : URA M) (H : Heap 𝓤) (A : Atoms 𝓤) (W : Given
         spelt ! (T.the-row) (Is (T.the-row)) (shows 𝓤 H A (T.the-row)) vals (LL.tells T.the-type T′.the-laws) fullShare
         h vs b o $
         -- [the record's cell; what it owns; the open borrow; obs; auth; room _5; …; room _4; …; room _3; …; _2; …;
-        -- _1; …;
-        -- room _0; …; what event owns]
+        -- _1; …; room _0; …; what event owns]
         move ! (1 ∷ []) $ peeks ! T.the-row (Is T.the-row) (shows 𝓤 H A T.the-row) h (vals h) (λ is.
         assigns ! (of-opd ! (load ! (from ! (hop ! (look ! 13 refl) (stop !))) (look-raw ! 1 refl))) (from ! (stop !))
         (init ! 9 refl (LL.lawful T.the-type T′.the-laws 𝓤 H A W .typed h _ is .0)) $
@@ -218,7 +217,7 @@ module _ {M : Type 1} (𝓤 : URA M) (H : Heap 𝓤) (A : Atoms 𝓤) (W : Given
 module _ {M : Type 1} (𝓤 : URA M) (H : Heap 𝓤) (A : Atoms 𝓤) (W : Given 𝓤 H A) (at-mem : Memory → SProp 𝓤)
     (run : Routine → Fun 𝓤) where
   close-walks : (C : Calls 𝓤 H) (Λ : Loops 𝓤 H) → FmC 𝓤 H (W .laws) C
-      → Triple 𝓤 (C #severity·update) (Update 𝓤 H A at-mem run) → Triple 𝓤 (C #severity·kept) (Kept 𝓤 H A at-mem run)
+      → Triple 𝓤 (C #severity·update) (Update 𝓤 H A at-mem run) → Triple 𝓤 (C #history·kept) (Kept 𝓤 H A at-mem run)
       → Walks 𝓤 H A close.ended stayed (WpFn 𝓤 H C Λ code.function) (close.clauses 𝓤 H A at-mem run)
   close-walks C Λ fm known known′ =
       walked 𝓤 H A close.ended stayed (close.clauses 𝓤 H A at-mem run) (WpFn 𝓤 H C Λ code.function)
@@ -236,7 +235,7 @@ module _ {M : Type 1} (𝓤 : URA M) (H : Heap 𝓤) (A : Atoms 𝓤) (W : Given
 
 close-meets : {M : Type 1} (𝓤 : URA M) (H : Heap 𝓤) (A : Atoms 𝓤) (W : Given 𝓤 H A) (at-mem : Memory → SProp 𝓤)
     (run : Routine → Fun 𝓤) (𝓣 : Tables 𝓤 H) → Triple 𝓤 (𝓣 .C #severity·update) (Update 𝓤 H A at-mem run)
-    → Triple 𝓤 (𝓣 .C #severity·kept) (Kept 𝓤 H A at-mem run)
+    → Triple 𝓤 (𝓣 .C #history·kept) (Kept 𝓤 H A at-mem run)
     → Meets 𝓤 H A close.signature (WpFn 𝓤 H (𝓣 .C) (𝓣 .Λ) code.function) (close.spec 𝓤 H A at-mem run)
 close-meets 𝓤 H A W at-mem run 𝓣 known known′ =
     walk-meets 𝓤 H A close.ended stayed W (goes 𝓤 H A W at-mem run) (close.clauses 𝓤 H A at-mem run)
@@ -247,10 +246,10 @@ pub close-lot-spec : {M : Type 1} → stated.statement M
 unfolding code.routine tablesOf
 close-lot-spec 𝓤 H 𝓜 𝓖 𝓡 =
     entered 𝓤 H (tripleOf 𝓤 H (𝓖 .A) close.signature (close.spec 𝓤 H (𝓖 .A) (𝓜 .mem) (𝓡 .run)))
-    (tables 𝓤 H 𝓜 𝓡 code.env .C) (tables 𝓤 H 𝓜 𝓡 code.env .Λ) #severity·close-lot code.function
+    (tables 𝓤 H 𝓜 𝓡 code.env .C) (tables 𝓤 H 𝓜 𝓡 code.env .Λ) #history·close-lot code.function
     (code.unfolded 𝓤 H 𝓜 𝓡)
     (close-meets 𝓤 H (𝓖 .A) (givenOf 𝓤 H 𝓜 𝓖) (𝓜 .mem) (𝓡 .run) (tablesOf 𝓤 H 𝓜 (tables 𝓤 H 𝓜 𝓡 code.env))
     (cited 𝓤 H (Update 𝓤 H (𝓖 .A) (𝓜 .mem) (𝓡 .run)) 𝓜 𝓡 code.env #severity·update update-def.routine
     code.calls-severity·update (update-thm.met 𝓤 H 𝓜 𝓖 𝓡))
-    (cited 𝓤 H (Kept 𝓤 H (𝓖 .A) (𝓜 .mem) (𝓡 .run)) 𝓜 𝓡 code.env #severity·kept kept-def.routine
-    code.calls-severity·kept (kept-thm.met 𝓤 H 𝓜 𝓖 𝓡)))
+    (cited 𝓤 H (Kept 𝓤 H (𝓖 .A) (𝓜 .mem) (𝓡 .run)) 𝓜 𝓡 code.env #history·kept kept-def.routine
+    code.calls-history·kept (kept-thm.met 𝓤 H 𝓜 𝓖 𝓡)))
