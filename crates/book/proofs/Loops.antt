@@ -10,10 +10,10 @@ use lib.ListN.{length, getD, take, drop, length-drop, length-take, drop-of-lengt
 use lib.Seq.{take-nil, take-take, getD-take}
 use Rattle.rules.specs.Numbers.{numbersOf}
 use Rattle.rules.specs.Book.{Walk, ends, broken, short, Kind, kinds, kindAt, variables, keyOf, keyFor, sameKey, sizeOf}
-use Rattle.rules.specs.Book.{shift, section, sections, entry, entries}
+use Rattle.rules.specs.Book.{shift, section, sections, entry}
 use Rattle.rules.proofs.Bounded.{by-le}
 use Rattle.rules.proofs.Numbers.{numbers-drop}
-use Rattle.rules.proofs.Walks.{shift-zero, entry-ends, place, place-ends, place-broken, place-entry, place-section}
+use Rattle.rules.proofs.Walks.{shift-zero, entry-ends, place, place-ends, place-broken, place-section}
 use Rattle.rules.proofs.Steps.{same-short, section-is, entries-done, entries-broken, entries-short, entries-next}
 use Rattle.rules.proofs.Steps.{sections-done, sections-broken, sections-short, sections-next}
 use Rattle.entry.specs.Paper.{keyPaper}

@@ -3,12 +3,11 @@
 use mathlib.Core.Path.{_≡_, refl, ap}
 use Rattle.rules.specs.Refusals.{Answer, refused, given}
 use Rattle.rules.specs.Verdict.{Verdict, Judged}
-use Rattle.rules.specs.Single.{Plan}
 use Rattle.rules.specs.Entries.{Closed}
 use Rattle.rules.proofs.Answers.{read-back}
 use Rattle.plans.specs.declared.VerdictAnswer.{VerdictAnswer}
 use Rattle.plans.specs.declared.VerdictAnswer.the-variants as judges
-use Rattle.plans.specs.Paper.{planPaper, verdictOn, Beside}
+use Rattle.plans.specs.Paper.{planPaper, verdictOn}
 use Rattle.plans.proofs.OneResult.{planBack, verdictBack}
 use Rattle.severity.specs.declared.Event.{Event}
 use Rattle.severity.proofs.OneResult.{recordBack, eventBack, event-back}

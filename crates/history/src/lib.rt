@@ -1,4 +1,4 @@
-// What a supply's record is kept by: the list of a history's severities, for any work, and the record lent.
+// The list of a history's severities, for any work; and a supply's record, lent, that an event moves.
 ghost use mathlib.Core.Path.{_≡_};
 ghost use Rattle.severity.specs.Paper.{workPaper, recordPaper, steppedPaper};
 ghost use Rattle.history.specs.Paper.{Lists, keptOf, Closes};

@@ -1,7 +1,7 @@
 -- A line's answer printed and taken into the record: one law for each way out.
 -- Assumes nothing.
 use Prim.Native.Nat.{ℕ, _≤_, _<_}
-use mathlib.Core.Path.{_≡_, refl, ap, _∙_}
+use mathlib.Core.Path.{_≡_, refl, _∙_}
 use mathlib.Core.List.{List}
 use lib.ListN.{take}
 use borrow.Author.Tests.{le-leb, lt-leb}

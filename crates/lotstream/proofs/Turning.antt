@@ -17,7 +17,7 @@ use Rattle.lottexts.specs.Printing.{lineRoom}
 use Rattle.lotlines.specs.Paper.{heldPaper}
 use Rattle.lotstream.specs.Turns.{Opened, waits, left, toCome, Logs, LastPut, Written}
 use Rattle.lotstream.specs.Turns.{brought, Got}
-use Rattle.lotstream.specs.Runs.{leastRoom, Scene, scene, Fits, writes, reads, unwritten, Turned, Ran, Running}
+use Rattle.lotstream.specs.Runs.{leastRoom, Scene, scene, Fits, reads, unwritten, Turned, Ran, Running}
 use Rattle.lotstream.specs.Runs.{mostTurns, Ended, Runs}
 use Rattle.lotstream.specs.declared.Turn.{Turn}
 

@@ -2,17 +2,17 @@
 -- only.
 use Prim.Native.Nat.{ℕ, _+_, _≤_}
 use mathlib.Core.Path.{_≡_}
-use mathlib.Core.Bool.{true, false, cond}
-use mathlib.Core.List.{List, [], _∷_, _++_}
+use mathlib.Core.Bool.{false, cond}
+use mathlib.Core.List.{List, [], _++_}
 use lib.Dec.{ltb, eqb}
 use lib.IntN.{ℤ, pos}
 use lib.ListN.{length, take, drop}
 use lib.Seq.{sets}
 use lib.Signed.{ltZ}
 use Rattle.io.specs.Counts.{clamped}
-use Rattle.rules.specs.History.{Work, ours}
+use Rattle.rules.specs.History.{ours}
 use Rattle.rules.specs.Log.{log}
-use Rattle.rules.specs.Feeding.{Held, finished, onwards}
+use Rattle.rules.specs.Feeding.{finished, onwards}
 use Rattle.lotlines.specs.Paper.{heldPaper}
 use Rattle.lotstream.specs.declared.Turn.{Turn}
 

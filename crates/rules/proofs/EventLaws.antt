@@ -40,7 +40,7 @@ module _ (r : Record) where
       → Reports {A = Record} 1 (EventRows r e) (refused 5 0)
   stopped-lot e known is h = passes 1 known (omega arith) (stops 5 (is, h) (omega arith) (last-from 10))
 
-  lot-stopped : (s : ℕ) (l : Lot) → 3 ≤ s → onLot s l r ≡ refused 5 0
+  pub lot-stopped : (s : ℕ) (l : Lot) → 3 ≤ s → onLot s l r ≡ refused 5 0
   unfolding onLot
   lot-stopped zero l h = absurd (omega arith)
   lot-stopped (suc zero) l h = absurd (omega arith)

@@ -1,24 +1,25 @@
 -- A run of calls: what each call records, and that the run, refused calls dropped, is the history of the events that
 -- its calls stand for, and of their bytes.
 -- Assumes nothing.
-use Prim.Native.Nat.{ℕ, zero, suc}
+use Prim.Native.Nat.{ℕ, suc}
 use mathlib.Core.Path.{_≡_, refl, sym, ap, _∙_}
-use mathlib.Core.Bool.{Bool, true, false, cond, not}
+use mathlib.Core.Bool.{Bool, true, false, cond, _&&_, _||_, not}
 use mathlib.Core.List.{List, [], _∷_, _++_, map}
 use native.Mathlib.Omega.{arith}
 use mathlib.Core.Logic.{_⊎_, inl, inr}
-use borrow.Author.Tests.{le-leb}
-use lib.Dec.{leb}
+use borrow.Author.Tests.{le-leb, leb-false}
+use lib.Dec.{leb, eqb}
 use lib.IntN.{ℤ}
-use lib.ListN.{length}
-use Rattle.rules.specs.Refusals.{Answer, refused, given, andThen, unknownForm, whileStopped, notStopped}
+use lib.ListN.{length, getD, List·getD-eq-default}
+use Rattle.rules.specs.Refusals.{Answer, refused, given, andThen, unknownForm, notStopped}
 use Rattle.rules.specs.Codes.{tightened, stopped}
 use Rattle.rules.specs.Verdict.{Verdict, Judged}
 use Rattle.rules.specs.Severity.{sampled, Lot, addThree, addTwo, scoreZero, notAccepted, Event, lot}
 use Rattle.rules.specs.Severity.{resubmitted, steadyIs, permissionIs, corrective, unknown, Record, fresh, step}
-use Rattle.rules.specs.Severity.{started, inRange, onLot, onResubmitted, onCorrective}
+use Rattle.rules.specs.Severity.{inRange, onCorrective}
 use Rattle.rules.specs.Reading.{severityRead}
-use Rattle.rules.specs.History.{Work, ours, eventOf, eventIn, byteOf, placed, afterFrom, after, past}
+use Rattle.rules.specs.History.{Work, ours, byteEvents, eventOf, eventIn, byteOf, placed, afterFrom}
+use Rattle.rules.specs.History.{after, past}
 use Rattle.rules.specs.Book.{Checked, sound, brokenAt, checkBook, onSound}
 use Rattle.rules.specs.Entries.{Asked, Closed, Offered, askedOn, eventFor, singleCounts, stagedCounts}
 use Rattle.rules.specs.Entries.{closedWith, onRecord}
@@ -33,6 +34,7 @@ use Rattle.rules.proofs.Agreement.{agree, severity-agrees}
 use Rattle.rules.proofs.Range.{step-range, fresh-range, after-range}
 use Rattle.rules.proofs.Resubmitted.{is-resubmitted, resubmitted-step}
 use Rattle.rules.proofs.Bytes.{lot-byte, corrective-byte}
+use Rattle.rules.proofs.EventLaws.{step-refused}
 
 module _ (w : Work) (cs : List Call) where
   call-idle : (call : Call) → entered w (ran w cs) call ≡ nothing → Idle w cs call
@@ -175,7 +177,7 @@ ran-agrees w (c ∷ cs) =
     go h (enters e t) s = and-one-event _ (ran w cs) t e (eventsRan w cs) h (s .0)
     go h nothing s = h
 
--- An event typed as its byte: where it comes from does not matter to the record, nor to the written reading.
+-- An event typed as its byte: where it comes from does not matter to the record.
 abbrev typedAgain : List Event → List Event
 typedAgain es = map eventOf (map byteOf es)
 
@@ -193,49 +195,29 @@ step-typed r (permissionIs false) = refl
 step-typed r corrective = refl
 step-typed r unknown = refl
 
--- the bytes of a work that knows them all are the bytes of the list
-known-typed : (e : Event) → eventIn ours (byteOf e) ≡ eventOf (byteOf e)
+-- our work knows every byte of the list
+ours-event : (b : ℕ) → eventIn ours b ≡ eventOf b
 unfolding eventIn eventOf
-known-typed (lot o addThree) = refl
-known-typed (lot o addTwo) = refl
-known-typed (lot o scoreZero) = refl
-known-typed (lot o notAccepted) = refl
-known-typed resubmitted = refl
-known-typed (steadyIs true) = refl
-known-typed (steadyIs false) = refl
-known-typed (permissionIs true) = refl
-known-typed (permissionIs false) = refl
-known-typed corrective = refl
-known-typed unknown = refl
-
--- of two answers that stand at the first place
-either : (b : Bool) (x y : Answer Record) → placed 0 x ≡ x → placed 0 y ≡ y → placed 0 (cond b x y) ≡ cond b x y
-either true x y p q = p
-either false x y p q = q
+ours-event b = go (leb b 9) refl (not (eqb b 4))
+  where
+    go : (t : Bool) → leb b 9 ≡ t → (u : Bool)
+        → cond (t && (u || true)) (getD byteEvents b unknown) unknown ≡ getD byteEvents b unknown
+    go true e true = refl
+    go true e false = refl
+    go false e u = sym (List·getD-eq-default byteEvents unknown (leb-false b 9 e))
 
 -- a refused event stands at no other place than the first
 step-place : (r : Record) (e : Event) → placed 0 (step r e) ≡ step r e
-unfolding step onLot onResubmitted onCorrective
-step-place r (lot o l) = go (r .severity)
+step-place r e = go (step r e) (λ n p q. step-refused r e .if-refused n p q .0)
   where
-    go : (s : ℕ) → placed 0 (onLot s l r) ≡ onLot s l r
-    go zero = refl
-    go (suc zero) = refl
-    go (suc (suc zero)) = refl
-    go (suc (suc (suc s))) = refl
-step-place r resubmitted = either (leb stopped (r .severity)) (refused whileStopped 0) (given r) refl refl
-step-place r (steadyIs b) = refl
-step-place r (permissionIs b) = refl
-step-place r corrective =
-    either (leb stopped (r .severity)) (given (started tightened (r .steady) (r .permission))) (refused notStopped 0)
-    refl
-    refl
-step-place r unknown = refl
+    go : (a : Answer Record) → ((n p : ℕ) → a ≡ refused n p → p ≡ 0) → placed 0 a ≡ a
+    go (refused n p) f = rw (f n p refl)
+    go (given t) f = refl
 
 -- An event moves a record as a history of its byte alone does.
 pub one-byte : (r : Record) (e : Event) → afterFrom r (past ours (byteOf e ∷ []) 1) ≡ step r e
 unfolding afterFrom past
-one-byte r e = rw (known-typed e, step-typed r e) (step-place r e)
+one-byte r e = rw (ours-event (byteOf e), step-typed r e) (step-place r e)
 
 length-typed : (es : List Event) → length (typedAgain es) ≡ length es
 length-typed [] = refl

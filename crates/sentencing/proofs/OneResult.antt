@@ -2,12 +2,10 @@
 -- document 01's answer tells the code's. Those of single lots are planned-one (plans), judged-one and closed-one
 -- (closing).
 -- Assumes nothing.
-use Prim.Native.Nat.{ℕ}
 use mathlib.Core.Path.{_≡_, ap}
 use Rattle.rules.specs.Staged as staged
 use Rattle.rules.specs.Sequential as sequential
 use Rattle.rules.specs.Variables as variables
-use Rattle.rules.specs.Entries.{Lettered}
 use Rattle.rules.proofs.Answers.{read-back}
 use Rattle.plans.specs.declared.Outcome.{Outcome}
 use Rattle.plans.specs.declared.VerdictAnswer.{VerdictAnswer}

@@ -4,7 +4,6 @@
 use Prim.Native.Nat.{ℕ, _≤_, _<_}
 use mathlib.Core.Path.{_≡_, refl, sym, ap, _∙_}
 use mathlib.Core.List.{List}
-use native.Mathlib.Omega.{arith}
 use borrow.Author.Tests.{ne-eqb, eq-eqb, lt-ltb, le-ltb}
 use lib.ListN.{length, drop}
 use Rattle.rules.specs.Refusals.{Answer, refused, given, firstOf, andThen}
@@ -17,7 +16,7 @@ use Rattle.rules.specs.Layout.{entryOf}
 use Rattle.rules.specs.Entries.{Asked, askedChecks, askedLetter, lookedUp, fromEntry, unlessAbove, Lettered, lettered}
 use Rattle.rules.specs.Entries.{reducedPlan, singlePlan, plainPlan}
 use Rattle.rules.proofs.Answers.{refused-given, given-one, then-given}
-use Rattle.rules.proofs.Checks.{Plannable, checks-alike, asked-kept, asked-passed, asked-letter}
+use Rattle.rules.proofs.Checks.{checks-alike, asked-kept, asked-passed, asked-letter}
 use Rattle.rules.proofs.EntryLaws.{lot-passes, lot-given, sound-given}
 use Rattle.book.specs.Places.{placeHeld}
 use Rattle.book.proofs.PlaceLaws.{on-refused, on-place, place-near}

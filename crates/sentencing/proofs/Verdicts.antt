@@ -8,7 +8,6 @@ use native.Mathlib.Omega.{arith}
 use borrow.Author.Tests.{le-ltb}
 use lib.IntN.{ℤ}
 use Rattle.rules.specs.Refusals.{Answer, refused, given, andThen}
-use Rattle.rules.specs.Codes.{letterOf}
 use Rattle.rules.specs.Verdict.{Verdict, Judged}
 use Rattle.rules.specs.Severity.{Record, inRange}
 use Rattle.rules.specs.Book.{Checked, sound, brokenAt, checkBook, onSound}
@@ -25,7 +24,7 @@ use Rattle.plans.specs.declared.Outcome.{Outcome}
 use Rattle.plans.specs.declared.Outcome.the-variants as outcomes
 use Rattle.plans.specs.declared.VerdictAnswer.{VerdictAnswer}
 use Rattle.plans.specs.declared.VerdictAnswer.the-variants as verdicts
-use Rattle.plans.specs.Paper.{Beside, beside, outcomeOn, verdictAnswer, verdictOn, itself}
+use Rattle.plans.specs.Paper.{beside, outcomeOn, verdictAnswer, verdictOn, itself}
 use Rattle.plans.proofs.Standing.{beside-answer}
 use Rattle.sentencing.specs.Paper.{withoutLetter, planned}
 use Rattle.sentencing.proofs.Supplies.{refused-alike, checked-once}

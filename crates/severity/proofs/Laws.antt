@@ -14,9 +14,9 @@ use Rattle.rules.specs.Severity.{Lot, addThree, addTwo, scoreZero, notAccepted,
 use Rattle.rules.specs.Severity.{resubmitted, unknown, Record, started}
 use Rattle.rules.specs.Severity.{onNormal, onTightened, due, settled, scoreAfter, windowAfter, lotNormal, lotTightened}
 use Rattle.rules.specs.Severity.{onLot, onResubmitted, onOrder, onCorrective, step, figuresInRange, scoreAndWindow}
-use Rattle.rules.specs.Severity.{noScoreOrWindow, runAndCount, noRunOrCount, inRange}
+use Rattle.rules.specs.Severity.{noScoreOrWindow, runAndCount, noRunOrCount}
 use Rattle.rules.specs.History.{Work, knows, byteEvents, eventOf, eventIn}
-use Rattle.rules.specs.Entries.{onRecord}
+use Rattle.rules.proofs.EventLaws.{lot-stopped}
 use Rattle.severity.specs.declared.Lot as declared
 use Rattle.severity.specs.declared.Lot.the-variants as lots
 use Rattle.severity.specs.declared.Origin as declared-origin
@@ -98,13 +98,6 @@ module _ (x : Record) (l : Lot) (ru co : ℕ) (st pe t : Bool) (a : t ≡ accept
 past-two : (s : ℕ) → (s ≡ 0 → ⊥) → (s ≡ 1 → ⊥) → (s ≡ 2 → ⊥) → 3 ≤ s
 past-two s e f g = omega arith
 
-lot-stopped : (s : ℕ) (l : Lot) (r : Record) → 3 ≤ s → refused 5 0 ≡ onLot s l r
-unfolding onLot
-lot-stopped zero l r h = absurd (omega arith)
-lot-stopped (suc zero) l r h = absurd (omega arith)
-lot-stopped (suc (suc zero)) l r h = absurd (omega arith)
-lot-stopped (suc (suc (suc s))) l r h = refl
-
 order-stopped : (s : ℕ) (b st pe : Bool) (r : Record) → 3 ≤ s → started 3 st pe ≡ onOrder s b st pe r
 unfolding onOrder
 order-stopped zero b st pe r h = absurd (omega arith)
@@ -131,7 +124,7 @@ module _ (x r : Record) (l : Lot) (s : ℕ) where
   lot-reduced-ends t a f e q = rw (e, sym a ∙ f) (ap given q)
 
   pub lot-refused : (s ≡ 0 → ⊥) → (s ≡ 1 → ⊥) → (s ≡ 2 → ⊥) → refused 5 0 ≡ onLot s l r
-  lot-refused e f g = lot-stopped s l r (past-two s e f g)
+  lot-refused e f g = sym (lot-stopped r s l (past-two s e f g))
 
 module _ (x r : Record) (s : ℕ) (b st pe : Bool) where
   pub order-normal : s ≡ 0 → x ≡ settled (r .score) (r .window) st pe → x ≡ onOrder s b st pe r
@@ -270,13 +263,6 @@ range-none r (suc zero) h = absurd (omega arith)
 range-none r (suc (suc zero)) h = absurd (omega arith)
 range-none r (suc (suc (suc zero))) h = absurd (omega arith)
 range-none r (suc (suc (suc (suc s)))) h = refl
-
-module _ (r : Record) (t : Bool) (answer : Answer Record) (q : t ≡ inRange r) where
-  pub update-in : (a : Answer Record) → t ≡ true → a ≡ answer → a ≡ onRecord r answer
-  update-in a e f = rw (sym q ∙ e) f
-
-  pub update-out : t ≡ false → refused 1 0 ≡ onRecord r answer
-  update-out e = rw (sym q ∙ e)
 
 -- the events of bytes
 module _ (w : Work) (b : ℕ) where

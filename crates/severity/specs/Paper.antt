@@ -7,6 +7,7 @@ use lib.ListN.{length, set}
 use Rattle.rules.specs.Refusals.{Answer, refused, given}
 use Rattle.rules.specs.Severity as paper
 use Rattle.rules.specs.History as histories
+use Rattle.rules.specs.Entries.{onRecord}
 use Rattle.severity.specs.declared.Work.{Work}
 use Rattle.severity.specs.declared.Lot.{Lot}
 use Rattle.severity.specs.declared.Lot.the-variants.{AddThree, AddTwo, ScoreZero, NotAccepted}
@@ -55,7 +56,7 @@ abbrev pub steppedPaper : Stepped → Answer paper.Record
 steppedPaper (stepped.Refused n k) = refused n k
 steppedPaper (stepped.Given r) = given (recordPaper r)
 
--- the severity of a record that is given; a history that is refused writes none
+-- the severity of a record that is given; after a refused byte nothing is written, so that 0 is never met
 abbrev pub severityOf : Answer paper.Record → ℕ
 severityOf (refused n k) = 0
 severityOf (given r) = r .severity
@@ -67,7 +68,7 @@ writtenFrom w r h out zero = out
 writtenFrom w r h out (suc i) =
     set (writtenFrom w r h out i) i (severityOf (histories.afterFrom r (histories.past w h (suc i))))
 
--- how many of its bytes were taken: all, or those before the first bad one
+-- how many of its bytes were taken: all, or those before the first bad one (none, for a record out of range)
 abbrev pub takenBy : Answer paper.Record → ℕ → ℕ
 takenBy (refused n k) bytes = k
 takenBy (given r) bytes = bytes
@@ -82,5 +83,5 @@ pub record Walking (w : histories.Work) (start : paper.Record) (h out buffer : L
 
 -- A walk's whole promise: the answer, and what the buffer then holds.
 pub record Walks (w : histories.Work) (start : paper.Record) (h out last : List ℕ) (r : Stepped) : Type 0 where
-  pub answer : steppedPaper r ≡ histories.afterFrom start (histories.past w h (length h))
+  pub answer : steppedPaper r ≡ onRecord start (histories.afterFrom start (histories.past w h (length h)))
   pub buffer : last ≡ writtenFrom w start h out (takenBy (steppedPaper r) (length h))

@@ -34,8 +34,8 @@ pub struct Work {
     pub resubmission: bool,
 }
 
-// The window is five bits, the newest lot in the lowest, 1 for a lot not accepted. No two figures stand side by side:
-// the compiler would keep them as one wide number, and take it apart at every step.
+// The window is five bits, the newest lot in the lowest, 1 for a lot not accepted. No two of score, run, count and window
+// stand side by side: the compiler would keep them as one wide number, and take it apart at every step.
 pub struct Record {
     pub score: u8,
     pub severity: u8,
@@ -421,12 +421,16 @@ fn step_byte(work: Work, old: Record, byte: u8) -> Stepped
     step(old, event_of(work, byte as u32))
 }
 
-// A history that goes on from a record: the record after it, and in the lent buffer, as far as that reaches, the
-// severity after each byte. All that moves a record goes through this one loop, so that the step is compiled into it.
+// A history that goes on from a record that a caller hands over: the record after it, and in the lent buffer, as far as
+// that reaches, the severity after each byte. A record out of range is refused. All that moves a record goes through
+// this one loop, so that the step is compiled into it.
 pub fn walk(work: Work, from: Record, history: &[u8], out: &mut [u8]) -> Stepped
     ensures { λ r. ⌜ Walks (workPaper work) (recordPaper from) (now (history .entry)) (now (out .entry))
         (now (out .exit)) r ⌝ }
 {
+    if !in_range(from) {
+        return Stepped::Refused(UNKNOWN_FORM, 0);
+    }
     let mut held = from;
     let mut i: usize = 0;
     while i < history.len() {
@@ -447,20 +451,16 @@ pub fn walk(work: Work, from: Record, history: &[u8], out: &mut [u8]) -> Stepped
     Stepped::Given(held)
 }
 
-// What an event makes of a record that a caller hands over: one out of range is refused, and any other moves as its
-// byte moves it.
+// What an event makes of a record: what the event's byte does.
 pub fn update(old: Record, event: Event) -> Stepped
     ensures { λ r. ⌜ steppedPaper r ≡ onRecord (recordPaper old) (step (recordPaper old) (eventPaper event)) ⌝ }
 {
-    if in_range(old) {
-        let byte = [byte_of(event)];
-        let mut unread = [0u8; 1];
-        return walk(ours(), old, &byte, &mut unread);
-    }
-    Stepped::Refused(UNKNOWN_FORM, 0)
+    let byte = [byte_of(event)];
+    let mut unread = [0u8; 1];
+    walk(ours(), old, &byte, &mut unread)
 }
 
-// What a history byte makes of a record that a caller hands over.
+// What a history byte makes of a record.
 pub fn next(work: Work, old: Record, byte: u32) -> Stepped
     ensures { λ r. ⌜ steppedPaper r ≡ next (workPaper work) (recordPaper old) byte ⌝ }
 {

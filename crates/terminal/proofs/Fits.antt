@@ -20,7 +20,7 @@ use Rattle.rules.specs.Variables.{VariablesPlan}
 use Rattle.rules.specs.Book.{Walk, ends, broken, short, sound, brokenAt, Checked, checkedAs, checkBook, sections, kinds}
 use Rattle.rules.specs.Entries.{Asked, judgeSingle, judgeStaged, judgeSequential, judgeVariables, Closed, Offered}
 use Rattle.rules.specs.Entries.{askedOn, closeSingle, closeStaged}
-use Rattle.rules.specs.Severity.{Record, inRange}
+use Rattle.rules.specs.Severity.{inRange}
 use Rattle.rules.specs.Terminal.{recordBytes, recordIn}
 use Rattle.rules.specs.PlanRules.{StagedRight, SequentialRight}
 use Rattle.rules.specs.Reporting.{NoRow, Reports, OnBook}

@@ -1,13 +1,12 @@
 -- Lent memory by the code's exits: the record that bytes hold, its bytes put back, a staged plan's row, and what a
 -- refusal and an answer leave.
 -- Assumes nothing.
-use Prim.Native.Nat.{ℕ, suc, _+_, _*_, _/_, _%_, _≤_, _<_, min}
+use Prim.Native.Nat.{ℕ, _+_, _*_, _≤_, _<_, min}
 use mathlib.Core.Path.{_≡_, refl, sym, ap, _∙_}
 use mathlib.Core.Bool.{Bool, true, false, false≢true}
 use mathlib.Core.List.{List, [], _∷_, _++_}
 use native.Mathlib.Omega.{arith}
 use lib.ListN.{length, getD, set, drop}
-use lib.Seq.{sets}
 use lib.Dec.{eqb}
 use lib.Ieee.{Float}
 use borrow.Author.Tests.{eqb-true, le-leb, lt-leb, eq-eqb, ne-eqb, lt-ltb, le-ltb}
@@ -26,7 +25,7 @@ use Rattle.rules.specs.Entries.{next, Lettered, Closed}
 use Rattle.rules.proofs.Demands.Two as two
 use Rattle.rules.proofs.Bools.{and-left}
 use Rattle.rules.proofs.Terminal.{form-missing}
-use Rattle.plans.specs.Paper.{Beside, beside, itself, outcomeOn, verdictAnswer, verdictOn}
+use Rattle.plans.specs.Paper.{beside, itself, outcomeOn, verdictAnswer, verdictOn}
 use Rattle.plans.specs.declared.Outcome.{Outcome}
 use Rattle.plans.specs.declared.Outcome.the-variants as outcomes
 use Rattle.plans.specs.declared.VerdictAnswer.{VerdictAnswer}

@@ -1,14 +1,14 @@
 -- `book::check_whole` meets its contract.
 -- Assumes nothing.
 use Prim.Native.Nat.{ℕ}
-use mathlib.Core.Path.{_≡_, ap, _∙_}
+use mathlib.Core.Path.{_≡_, _∙_}
 use mathlib.Core.List.{List}
 use native.Mathlib.Omega.{arith}
 use denote.Ref.{now}
 use lib.ListN.{length}
 use Rattle.rules.specs.Refusals.{Answer, refused, given, brokenBook}
 use Rattle.rules.specs.Numbers.{numbersOf}
-use Rattle.rules.specs.Book.{ends, broken, short, kinds, checkBook, sound, brokenAt, onSound}
+use Rattle.rules.specs.Book.{kinds, checkBook, sound, brokenAt, onSound}
 use Rattle.rules.proofs.Numbers.{numbers-low}
 use Rattle.rules.proofs.Walks.{place-ends, place-broken, place-sections}
 use Rattle.rules.proofs.Steps.{book-long, book-is, after-end, at-end, at-broken, at-short}

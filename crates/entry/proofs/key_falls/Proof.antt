@@ -3,9 +3,6 @@
 use mathlib.Core.Path.{sym, ap, _∙_}
 use mathlib.Core.Bool.{not}
 use native.Mathlib.Omega.{arith}
-use denote.Ref.{now}
-use Rattle.rules.specs.Numbers.{numbersOf}
-use Rattle.rules.specs.Book.{kindAt, keyOf}
 use Rattle.rules.proofs.Steps.{falls-none, falls-is}
 use borrow.Author.Needs.{needs}
 use Rattle.entry.proofs.key_falls.Statement.{statement}

@@ -1,6 +1,5 @@
 -- `entry::staged_at` meets its contract.
 -- Assumes nothing.
-use mathlib.Core.Path.{sym}
 use native.Mathlib.Omega.{arith}
 use denote.Ref.{now}
 use Rattle.rules.specs.Numbers.{numbersOf}

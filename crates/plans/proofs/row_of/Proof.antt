@@ -1,6 +1,6 @@
 -- `plans::row_of` meets its contract: the loop's invariant is that the row is the first of those left. Assumes nothing.
 use Prim.Native.Nat.{ℕ, suc, _+_, _-_, _≤_, _<_}
-use mathlib.Core.Path.{_≡_, refl, sym, _∙_}
+use mathlib.Core.Path.{_≡_, refl, _∙_}
 use mathlib.Core.Bool.{cond}
 use native.Mathlib.Numerals.{add-one}
 use native.Mathlib.Omega.{arith}

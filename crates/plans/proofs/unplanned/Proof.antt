@@ -3,7 +3,6 @@ use mathlib.Core.Path.{ap}
 use borrow.Author.Needs.{needs}
 use Rattle.rules.specs.Refusals.{refused}
 use Rattle.rules.specs.Single.{Plan}
-use Rattle.plans.specs.Paper.{Beside}
 use Rattle.plans.proofs.unplanned.Statement.{statement}
 use Rattle.plans.proofs.unplanned.Tie as tie
 

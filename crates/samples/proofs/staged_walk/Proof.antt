@@ -1,11 +1,11 @@
 -- `samples::staged_walk` meets its contract. The invariant: the walk has come to the stage at place i.
 -- Assumes nothing.
-use Prim.Native.Nat.{ℕ, _+_, _-_, _*_, _≤_}
+use Prim.Native.Nat.{_-_, _*_, _≤_}
 use mathlib.Core.Path.{_≡_, sym, ap, _∙_}
 use native.Mathlib.Omega.{arith}
-use lib.ListN.{length, drop, getD}
+use lib.ListN.{length, getD}
 use Rattle.rules.specs.Numbers.{numbersOf}
-use Rattle.rules.specs.Staged.{Stage, stageDecides, taken, takeItems}
+use Rattle.rules.specs.Staged.{Stage, stageDecides}
 use Rattle.rules.proofs.SampleSteps.{StagedAt, staged-start, staged-done, staged-missing, staged-over}
 use Rattle.rules.proofs.SampleSteps.{staged-decides, staged-goes, taken-there}
 use Rattle.entry.specs.Paper.{stagedPaper}

@@ -1,12 +1,11 @@
 -- `severity::update` meets its contract. Assumes nothing.
 use borrow.Author.Needs.{needs}
-use Rattle.severity.proofs.Laws.{update-in, update-out}
-use Rattle.severity.proofs.Walking.{walked-one}
+use Rattle.severity.proofs.Loop.{event-walked}
 use Rattle.severity.proofs.update.Statement.{statement}
 use Rattle.severity.proofs.update.Tie as tie
 
 pub update-spec : {M : Type 1} → statement M
 update-spec =
     tie.close
-    (tie.spec (λ c κs. search needs) (λ c κs. search needs) (λ c κs. search needs) (λ c. search needs)
-    (λ c. search needs) (λ c κs. search needs) (λ c. search (update-in, walked-one)) (λ c. search update-out))
+    (tie.spec (λ c κs. search needs) (λ c κs. search needs) (λ c. search needs) (λ c. search needs)
+    (λ c κs. search needs) (λ c. search event-walked))

@@ -1,7 +1,6 @@
 -- `sentencing::closings::close_single` meets its contract.
 -- Assumes nothing.
 use mathlib.Core.Path.{_≡_, sym, ap, _∙_}
-use mathlib.Core.Bool.{true, false}
 use denote.Ref.{now}
 use Rattle.rules.specs.Refusals.{Answer, andThen}
 use Rattle.rules.specs.Verdict.{Verdict, Judged}

@@ -5,11 +5,10 @@ use mathlib.Core.Path.{_≡_, sym, ap, _∙_}
 use mathlib.Core.List.{List}
 use native.Mathlib.Omega.{arith}
 use denote.Ref.{now}
-use lib.ListN.{length, drop}
+use lib.ListN.{length}
 use Rattle.rules.specs.Refusals.{given}
 use Rattle.rules.specs.Numbers.{numbersOf}
-use Rattle.rules.specs.Single.{Plan}
-use Rattle.rules.specs.Book.{kinds, reducedSingles, ReducedSingle, reducedOf}
+use Rattle.rules.specs.Book.{kinds, reducedSingles, reducedOf}
 use Rattle.rules.specs.Layout.{entryOf}
 use Rattle.rules.proofs.Numbers.{numbers-low, numbers-part}
 use Rattle.plans.specs.Paper.{askedPaper, beside, itself, zeroPlan}

@@ -2,7 +2,6 @@
 -- Assumes nothing.
 use mathlib.Core.Path.{_≡_, sym, ap, _∙_}
 use denote.Ref.{now}
-use Rattle.rules.specs.Single.{Plan}
 use Rattle.rules.specs.Book.{checkBook, onSound}
 use Rattle.rules.specs.Entries.{plainPlan, singlePlan}
 use Rattle.plans.specs.Paper.{askedPaper, beside, itself, zeroPlan}

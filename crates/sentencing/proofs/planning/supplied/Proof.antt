@@ -1,6 +1,6 @@
 -- `sentencing::planning::supplied` meets its contract.
 -- Assumes nothing.
-use mathlib.Core.Path.{_≡_, sym, ap, _∙_}
+use mathlib.Core.Path.{sym, ap, _∙_}
 use denote.Ref.{now}
 use Rattle.plans.specs.Paper.{askedPaper, letterPaper}
 use Rattle.book.specs.Paper.{foundPaper}
