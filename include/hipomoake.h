@@ -177,7 +177,7 @@ uint32_t hm_letter(uint32_t size, uint32_t level, uint8_t *letter);
 /*
  * The single sampling plan for a lot. Under reduced it comes from the book.
  *   letter  the letter that gives the size, HM_LETTER_A to HM_LETTER_S; under reduced that of Table 1
- *   n       items to inspect: the table's, or the whole lot where that is not more
+ *   n       items to inspect: the table's, under reduced the book's, or the whole lot where that is not more
  *   ac      accept when the sample's total is at most this
  * Refuses 1 2 3 4 5 6 12.
  */

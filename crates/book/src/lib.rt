@@ -84,7 +84,8 @@ fn check_section(kind: usize, key: Key, part: &[u8]) -> Stretch
     Stretch::Ends(at, seen)
 }
 
-// The place of the entry that is asked for: in its own section, which starts at a place, the one seen there.
+// The place held after a section that starts at `at`: in the section asked for, the one seen there (0: none); in any
+// other, the one held before.
 fn held_past(kind: usize, asked: usize, held: usize, at: usize, seen: usize) -> usize
     requires { ⌜ at + seen < 10000000000000000000 ⌝ }
     ensures { λ r. ⌜ r ≡ heldPast kind asked held at seen ⌝ }

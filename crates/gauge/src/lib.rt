@@ -29,7 +29,7 @@ pub enum Shown {
     MeanAndVariance(Figures),
 }
 
-// Whether all readings are in range, and the sums of the raised readings and of their squares.
+// Whether all readings are in range; if so, the sums of the readings plus 1,000 each, and of those squared.
 struct Sums {
     sound: bool,
     t: u64,
@@ -93,7 +93,7 @@ fn raised(limit: i32) -> u64
     (limit + 1000) as u64
 }
 
-// The two tests, of the margin high - low, and of the n readings whose raised sums are t and q.
+// The two tests, of the margin high - low, and of the n readings with the sums t and q.
 fn passes(n: u64, k: u64, high: u64, low: u64, t: u64, q: u64) -> bool
     requires { ⌜ (1 ≤ n) × (n ≤ 50) × (k ≤ 4000) × (high ≤ 100000) × (t ≤ 100000) × (q ≤ 200000000) ⌝ }
     ensures { λ r. ⌜ r ≡ withinSpread n k (pos high -ℤ pos low) (spread n (sumFrom n t) (squaresFrom n t q)) ⌝ }
@@ -107,7 +107,7 @@ fn passes(n: u64, k: u64, high: u64, low: u64, t: u64, q: u64) -> bool
     w * (n * q) <= 1000000 * d * (n - 1) + w * tt
 }
 
-// `limit` is raised, as the readings are.
+// `limit` is plus 1,000, as the readings are.
 fn accepts(upper: bool, n: u64, k: u64, limit: u64, t: u64, q: u64) -> bool
     requires { ⌜ (1 ≤ n) × (n ≤ 50) × (k ≤ 4000) × (limit ≤ 2000) × (t ≤ 100000) × (q ≤ 200000000) ⌝ }
     ensures { λ r.
@@ -123,7 +123,7 @@ fn accepts(upper: bool, n: u64, k: u64, limit: u64, t: u64, q: u64) -> bool
 }
 
 // The verdict on a sample of readings, each a 16-bit number in two's complement, for an upper or a lower limit. A plan
-// that no sound book could hold is refused: its ranges keep the sums within 64 bits.
+// that no sound book could hold is refused: a book's ranges keep the products within 64 bits.
 pub fn judge_readings(
     upper: bool,
     plan: VariablesPlan,

@@ -1,4 +1,4 @@
-// The 16-bit little-endian numbers of lent bytes. Every read is total: where there is no number it gives 0.
+// The 16-bit little-endian numbers of lent bytes. Every read is total: where there is no number it is read as 0.
 ghost use mathlib.Core.Path.{_≡_};
 ghost use Prim.Native.Nat.{_+_, _*_, _<_};
 ghost use lib.ListN.{length, getD};

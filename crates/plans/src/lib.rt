@@ -371,7 +371,7 @@ fn tighter_column(column: u32) -> u32
     column - 1
 }
 
-// The normal Ac one column tighter at a letter; an arrow has none.
+// The normal Ac one column tighter at a letter: 0 where an arrow stands; column 0 has none tighter and is read itself.
 pub fn tighter_ac(letter: u8, column: u32) -> u16
     ensures { λ r. ⌜ r ≡ tighterAc letter column ⌝ }
 {

@@ -22,7 +22,7 @@ enum Decision {
     GoesOn,
 }
 
-// A verdict stands where the sample ends at the item that decides.
+// A verdict stands where the sample ends at the item or stage that decides; else 7.
 fn ended_with(sample: &[u8], v: Verdict) -> VerdictAnswer
     requires { ⌜ v .used ≤ length (numbersOf (now sample)) ⌝ }
     ensures { λ r. ⌜ verdictAnswer r ≡ endedAfter (now (sample .entry)) v ⌝ }
@@ -68,7 +68,7 @@ fn item_decides(plan: SequentialPlan, n: u64, d: u64) -> Decision
     Decision::GoesOn
 }
 
-// 7 or 8 as the walk meets it, else the verdict; any plan has its own.
+// 7 or 8 as the walk meets it, else the verdict; any plan is judged, whether or not a book could hold it.
 pub fn sequential_sample(plan: SequentialPlan, sample: &[u8]) -> VerdictAnswer
     ensures { λ r. ⌜ verdictAnswer r ≡ judgeSequence (sequentialPaper plan) (now (sample .entry)) ⌝ }
 {
@@ -173,7 +173,7 @@ struct Stage {
     re: u16,
 }
 
-// A number of the stage at a place; past the seventh there is none.
+// A number of the stage at a place; past the seventh it is 0.
 fn stage_number(numbers: [u16; 7], i: usize) -> u16
     ensures { λ r. ⌜ r ≡ getD numbers i 0 ⌝ }
 {
@@ -250,7 +250,7 @@ fn staged_walk(column: u32, plan: StagedPlan, sample: &[u8]) -> VerdictAnswer
     VerdictAnswer::Refused(plans::WRONG_LENGTH, 0)
 }
 
-// 4, then 7 or 8 as the walk meets it, then the verdict; any plan has its own.
+// 4, then 7 or 8 as the walk meets it, then the verdict; any plan is judged, whether or not a book could hold it.
 pub fn staged_sample(column: u32, plan: StagedPlan, sample: &[u8]) -> VerdictAnswer
     ensures { λ r. ⌜ verdictAnswer r ≡ stagedSample column (stagedPaper plan) (now (sample .entry)) ⌝ }
 {

@@ -75,7 +75,7 @@ module _ (bytes : List ℕ) where
   unfolding recordIn hasForm
   of-form e h k = rw (eq-eqb (length bytes) 7 e, le-leb (getD bytes 5 0) 1 h, le-leb (getD bytes 6 0) 1 k)
 
-  -- bytes of another form hold no record in range
+  -- only seven bytes hold a record in range
   pub in-range-length : inRange (recordIn bytes) ≡ true → length bytes ≡ recordBytes
   unfolding hasForm
   in-range-length h = go (hasForm bytes) refl
