@@ -8,7 +8,7 @@ ghost use Rattle.rules.specs.Book as paper;
 ghost use Rattle.rules.specs.Book.{reducedSingles, staged, sequential, variables, reducedOf, sequentialOf, variablesOf};
 ghost use Rattle.rules.specs.Layout.{entryOf};
 ghost use Rattle.rules.specs.Entries.{variablesEntry};
-ghost use Rattle.entry.specs.Paper.{walkPaper, keyPaper, pairIs, entryRead, risesAfter, stagedRead};
+ghost use Rattle.entry.specs.Paper.{walkPaper, keyPaper, pairIs, entryRead, risesAfter, noStages, stagedRead};
 ghost use Rattle.entry.specs.Paper.{reducedPaper, stagedPaper, sequentialPaper, variablesPaper};
 
 mod keeping;
@@ -228,18 +228,25 @@ fn seven_from(e: &[u8], from: usize, step: usize, m: usize) -> [u16; 7]
     out
 }
 
+// The plan of no stages, which stands beside a refusal.
+pub fn no_stages() -> StagedPlan
+    ensures { λ r. ⌜ stagedPaper r ≡ noStages ⌝ }
+{
+    StagedPlan {
+        stages: 0,
+        sizes: [0u16; 7],
+        acs: [0u16; 7],
+        res: [0u16; 7],
+    }
+}
+
 // The staged plan of the entry that e begins with; one that says over seven stages has none.
 pub fn staged_at(e: &[u8]) -> StagedPlan
     ensures { λ r. ⌜ stagedPaper r ≡ stagedRead (entryOf staged (numbersOf (now (e .entry)))) ⌝ }
 {
     let stages = keeping::number16(e, 3);
     if 7 < stages {
-        return StagedPlan {
-            stages: 0,
-            sizes: [0u16; 7],
-            acs: [0u16; 7],
-            res: [0u16; 7],
-        };
+        return no_stages();
     }
     let m = stages as usize;
     let sizes = seven_from(e, 4, 1, m);

@@ -7,7 +7,7 @@ use borrow.Author.Tests.{lt-ltb, le-ltb}
 use lib.ListN.{length, getD}
 use Rattle.rules.specs.Refusals.{refused, given}
 use Rattle.rules.specs.Severity.{Record, fresh}
-use Rattle.rules.specs.History.{Work, eventIn, past, listed, written}
+use Rattle.rules.specs.History.{Work, eventIn, past, filled, listed, written}
 use Rattle.rules.proofs.Append.{one-event}
 use Rattle.rules.proofs.Agreement.{severity-agrees}
 use Rattle.rules.proofs.Histories.{From}
@@ -25,7 +25,7 @@ module _ (w : Work) (h out : List ℕ) where
 
   -- from a fresh record the list is the written reading's
   written-read : (i : ℕ) (t : Record) → From w h Start i ≡ given t → writtenFrom w Start h out i ≡ written w h out i
-  unfolding writtenFrom written past
+  unfolding filled past
   written-read zero t q = refl
   written-read (suc i) t q =
       let e = one-event Start t (eventIn w (getD h i 0)) (past w h i) q in

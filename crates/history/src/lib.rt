@@ -7,8 +7,8 @@ use severity::Record;
 use severity::Stepped;
 use severity::Work;
 
-// The refusal of a buffer that is shorter than the history.
-const BUFFER_SHORT: u8 = 11;
+// The refusal of a buffer that is too short.
+pub const BUFFER_SHORT: u8 = 11;
 
 // How many severities were written, or a refusal.
 pub enum Listed {

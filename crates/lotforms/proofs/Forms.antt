@@ -3,7 +3,7 @@
 use Prim.Native.Nat.{ℕ, suc}
 use native.Mathlib.Omega.{arith}
 use mathlib.Core.Path.{_≡_, refl, sym}
-use mathlib.Core.Bool.{Bool, true, false, cond, _&&_}
+use mathlib.Core.Bool.{Bool, true, false, cond, _&&_, and-false, and-true}
 use mathlib.Core.List.{List, [], _∷_}
 use lib.Dec.{leb, eqb}
 use lib.ListN.{length, getD}
@@ -17,16 +17,11 @@ use Rattle.rules.specs.Log.{permissionLetter, correctiveLetter}
 use Rattle.rules.specs.Feeding.{upTo}
 use Rattle.rules.proofs.LineForms.{restAt, split-first}
 use Rattle.lotforms.specs.Reading.{fieldsFrom, numbersThen, lotOf, orderOf, lotFrom, orderFrom}
-use Rattle.lotforms.proofs.Reading.{and-false}
 
 -- a first field that is no single byte
 not-one : (w : Work) (fs : List (List ℕ)) → eqb (length (fieldAt fs 0)) 1 ≡ false → lineOf w fs ≡ unknownLine
 unfolding lineOf
 not-one w fs e = simp (e, and-false)
-
-and-true : (a : Bool) → a && true ≡ a
-and-true true = refl
-and-true false = refl
 
 ands : {A : Type 0} (a b c d : Bool) (x y : A)
     → cond (a && (b && (c && d))) x y ≡ cond a (cond b (cond c (cond d x y) y) y) y

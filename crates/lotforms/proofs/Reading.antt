@@ -6,7 +6,7 @@ use native.Mathlib.Omega.{arith}
 use native.Mathlib.Numerals.{add-one}
 use native.Mathlib.Nat.{le-trans}
 use mathlib.Core.Path.{_≡_, refl, sym, ap, _∙_}
-use mathlib.Core.Bool.{Bool, true, false, cond, _&&_, _||_, not}
+use mathlib.Core.Bool.{Bool, true, false, cond, _||_, not, and-false, or-true}
 use mathlib.Core.List.{List, [], _∷_}
 use lib.Dec.{leb, eqb}
 use lib.ListN.{length, getD, drop, length-drop, drop-of-length-le}
@@ -23,14 +23,6 @@ use Rattle.lotforms.specs.declared.Field.{Field}
 use Rattle.lotforms.specs.declared.Field.the-variants.{Number, Other}
 
 -- a field's test
-pub and-false : (a : Bool) → a && false ≡ false
-and-false true = refl
-and-false false = refl
-
-or-true : (a : Bool) → a || true ≡ true
-or-true true = refl
-or-true false = refl
-
 no-digits : (f : List ℕ) → allDigits f ≡ false → isNumber f ≡ false
 unfolding isNumber
 no-digits f e = rw e (and-false (not (eqb (length f) 0)))

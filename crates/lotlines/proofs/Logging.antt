@@ -9,6 +9,7 @@ use Rattle.rules.specs.History.{Work}
 use Rattle.rules.specs.Refusals.{unknownForm}
 use Rattle.rules.specs.Entries.{closeTotal, next}
 use Rattle.rules.specs.Log.{refusedLine, unknownLine, loggedLot, loggedOrder, loggedAs}
+use Rattle.rules.specs.Log.{orderPrinted, lotPrinted}
 use Rattle.rules.specs.Feeding.{longestLine, ended}
 use Rattle.plans.specs.Paper.{planPaper, beside, zeroPlan}
 use Rattle.severity.specs.declared.Record.{Record}
@@ -25,7 +26,7 @@ use Rattle.lotforms.specs.declared.Line.{Line}
 use Rattle.lotforms.specs.declared.Line.the-variants.{Lot, Order, Unknown}
 use Rattle.lotforms.specs.Reading.{linePaper, formOf}
 use Rattle.lotforms.proofs.OneResult.{form-any}
-use Rattle.lottexts.specs.Printing.{Puts, orderPrinted, lotPrinted}
+use Rattle.lottexts.specs.Printing.{Puts}
 use Rattle.lotlines.specs.declared.Logged.{Logged}
 use Rattle.lotlines.specs.Paper.{Logs, heldOf}
 

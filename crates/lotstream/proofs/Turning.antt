@@ -5,7 +5,7 @@ use native.Mathlib.Omega.{arith}
 use mathlib.Core.Path.{_≡_, refl, ap, sym, subst, _∙_}
 use mathlib.Core.Bool.{Bool, true, false, cond}
 use mathlib.Core.List.{List, [], _∷_, _++_, append-nil, append-assoc}
-use mathlib.Core.Logic.{inr}
+use mathlib.Core.Logic.{inr, ⊎-elim}
 use borrow.Author.Tests.{eqb-true}
 use lib.Dec.{T, ltb, eqb}
 use lib.ListN.{length, take, drop}
@@ -52,6 +52,7 @@ module _ {t : Turn} {input out : List ℕ} (first : Fits (scene t input out)) {s
         cut = λ _. w .none;
         ends = λ e _. never f e;
         stays = λ o. w .over ∙ o;
+        held = λ _. w .state;
         fits = sent-fits;
       }
 
@@ -64,6 +65,7 @@ module _ {t : Turn} {input out : List ℕ} (first : Fits (scene t input out)) {s
         cut = λ _. w .none;
         ends = λ _ n. never (sym (w .over) ∙ o) n;
         stays = λ _. o;
+        held = λ _. w .state;
         fits = sent-fits;
       }
     where
@@ -130,6 +132,7 @@ module _ {t : Turn} {input out : List ℕ} (first : Fits (scene t input out)) {s
           cut = λ _. none;
           ends = λ e _. never f e;
           stays = λ e. never e begun;
+          held = λ _. g .state ∙ w .state;
           fits = record { taken = g .within; long = g .fits; waiting = omega (arith, none); room = first .room };
         }
 
@@ -143,6 +146,7 @@ module _ {t : Turn} {input out : List ℕ} (first : Fits (scene t input out)) {s
             cut = λ q. never q (l .failed ∙ f);
             ends = λ _ _. now-over r (l .over) (l .long);
             stays = λ _. l .over ∙ e;
+            held = λ _. l .state ∙ g .state ∙ w .state;
             fits = record {
               taken = omega (arith, g .within, l .taken, l .long);
               long = omega (arith, g .fits, l .long);
@@ -195,6 +199,7 @@ module _ {t : Turn} {input out : List ℕ} (first : Fits (scene t input out)) {s
             cut = λ q. never q (l .failed ∙ f);
             ends = λ _ _. now-over r (l .over) (l .long);
             stays = λ b. never b begun;
+            held = λ q. ⊎-elim (λ o. never o (l .over ∙ e)) (λ x. never x (l .failed ∙ f)) q;
             fits = record {
               taken = omega (arith, l .within, long, l .long);
               long = omega (arith, g .fits, l .long);

@@ -50,7 +50,7 @@ unwritten s more =
 -- A turn, where no call fails: what was to be written, with what it reads, is what it writes and what is to be written
 -- after it; the lines of the piece are answered but where another might find no room; and the input is over where the
 -- piece is used up and the read brings no byte, and only there. Where a call fails, nothing waits: a line that a failed
--- read cut is not answered.
+-- read cut is not answered. At the end and after a failure what is held stays.
 pub record Turned (a b : Scene) : Type 0 where
   pub account :
       b .turn .failed ≡ false → (more : List ℕ) → (b .turn .over ≡ true → more ≡ [])
@@ -63,6 +63,7 @@ pub record Turned (a b : Scene) : Type 0 where
       b .turn .failed ≡ false → a .turn .over ≡ false
       → b .turn .over ≡ cond (ltb (a .turn .taken) (a .turn .length)) false (eqb (b .turn .length) 0)
   pub stays : a .turn .over ≡ true → b .turn .over ≡ true
+  pub held : (b .turn .over ≡ true) ⊎ (b .turn .failed ≡ true) → b .turn .state ≡ a .turn .state
   pub fits : Fits b
 
 -- The turns of a run, the newest first.

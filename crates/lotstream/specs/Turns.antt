@@ -52,6 +52,7 @@ pub record Opened (out : List ℕ) (r : Turn) : Type 0 where
 -- The last line: what it prints waits behind what waited.
 pub record LastPut (t : Turn) (out last : List ℕ) (r : Turn) : Type 0 where
   pub text : waits r last ≡ waits t out ++ finished ours (heldPaper (t .state))
+  pub state : r .state ≡ t .state
   pub fits : r .waiting ≤ length out
   pub long : r .length ≡ t .length
   pub taken : r .taken ≡ t .taken

@@ -12,20 +12,11 @@ use Rattle.rules.specs.Ascii.{ascii}
 use Rattle.rules.specs.Codes.{letterNames}
 use Rattle.rules.specs.Single.{Plan}
 use Rattle.rules.specs.Log.{decimal, space, newline, printed, refusedLine}
+use Rattle.rules.specs.Log.{orderPrinted, lotPrinted}
 use Rattle.rules.proofs.Decimals.{decimal-digit, decimal-last}
+use Rattle.rules.proofs.Stored.{sets-append}
 use Rattle.lottexts.specs.Printing.{Puts, severityByte, letterByte, afterText, namesText, planText}
-use Rattle.lottexts.specs.Printing.{lineRoom, orderPrinted, lotPrinted}
-
-sets-append : (xs ys out : List ℕ) (at : ℕ) → sets out at (xs ++ ys) ≡ sets (sets out at xs) (at + length xs) ys
-sets-append [] ys out at = ap (λ (n : ℕ). sets out n ys) same
-  where
-    same : at ≡ at + 0
-    same = omega arith
-sets-append (x ∷ xs) ys out at =
-    sets-append xs ys (set out at x) (suc at) ∙ ap (λ (n : ℕ). sets (sets (set out at x) (suc at) xs) n ys) further
-  where
-    further : suc at + length xs ≡ at + suc (length xs)
-    further = omega arith
+use Rattle.lottexts.specs.Printing.{lineRoom}
 
 -- a run, and then another
 pub then-put : {at mid r : ℕ} {xs ys out half last : List ℕ} → Puts at xs out half mid → Puts mid ys half last r
@@ -36,7 +27,7 @@ then-put {at} {mid} {r} {xs} {ys} {out} {half} {last} p q =
       stored =
           q .stored ∙ ap (λ (o : List ℕ). sets o mid ys) (p .stored)
           ∙ ap (λ (n : ℕ). sets (sets out at xs) n ys) (p .next)
-          ∙ sym (sets-append xs ys out at);
+          ∙ sym (sets-append out xs ys at);
       fits = q .fits;
     }
 

@@ -6,9 +6,8 @@ use mathlib.Core.List.{List, [], _∷_, _++_}
 use lib.ListN.{length, getD}
 use lib.Seq.{sets}
 use Rattle.rules.specs.Ascii.{ascii}
-use Rattle.rules.specs.Single.{Plan}
 use Rattle.rules.specs.Codes.{letterNames}
-use Rattle.rules.specs.Log.{decimal, space, newline, printed, severityName, letterName, verdictName}
+use Rattle.rules.specs.Log.{decimal, space, newline}
 
 -- the lent array's length
 abbrev pub lineRoom : ℕ
@@ -34,20 +33,3 @@ namesText severity letter = space ∷ severityByte severity ∷ space ∷ letter
 
 abbrev pub planText : ℕ → ℕ → Bool → List ℕ
 planText n ac accepted = decimal n ++ (space ∷ (decimal ac ++ cond accepted (ascii " accept ") (ascii " reject ")))
-
--- `orderText` and `lotText` by the figures that they print
-abbrev pub orderPrinted : ℕ → ℕ → ℕ → List ℕ
-orderPrinted line severity score =
-    printed (decimal line) (ascii "order" ∷ severityName severity ∷ decimal score ∷ [])
-
-abbrev pub lotPrinted : ℕ → ℕ → Plan → Bool → ℕ → ℕ → List ℕ
-lotPrinted line used plan accepted severity score =
-    printed (decimal line)
-    (severityName used
-    ∷ letterName (plan .letter)
-    ∷ decimal (plan .n)
-    ∷ decimal (plan .ac)
-    ∷ verdictName accepted
-    ∷ severityName severity
-    ∷ decimal score
-    ∷ [])

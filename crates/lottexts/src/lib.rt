@@ -4,9 +4,10 @@ ghost use mathlib.Core.List.{[], _∷_};
 ghost use Prim.Native.Nat.{_+_, _<_, _≤_};
 ghost use lib.ListN.{length};
 ghost use Rattle.rules.specs.Log.{decimal, refusedLine, header};
+ghost use Rattle.rules.specs.Log.{orderPrinted, lotPrinted};
 ghost use Rattle.plans.specs.Paper.{planPaper};
 ghost use Rattle.lottexts.specs.Printing.{lineRoom, Puts, severityByte, letterByte, afterText, namesText};
-ghost use Rattle.lottexts.specs.Printing.{planText, orderPrinted, lotPrinted};
+ghost use Rattle.lottexts.specs.Printing.{planText};
 use plans::SinglePlan;
 
 // The most bytes of a line.

@@ -32,7 +32,7 @@ pub const OUT_OF_RANGE: u8 = 9;
 // Severities, as a lot is asked about.
 const NORMAL: u32 = 0;
 
-const REDUCED: u32 = 2;
+pub const REDUCED: u32 = 2;
 
 const STOPPED: u32 = 3;
 

@@ -31,3 +31,7 @@ given-one e = cc
 pub read-back : {A B : Type 0} (paper : A → B) (back : B → A) → ((a : A) → back (paper a) ≡ a) → (a b : A)
     → paper a ≡ paper b → a ≡ b
 read-back paper back undoes a b e = sym (undoes a) ∙ ap back e ∙ undoes b
+
+-- the case that the code meets is the definition's answer
+pub met : {R A : Type 0} (paper : R → Answer A) {r x : R} {a : Answer A} → r ≡ x → paper r ≡ a → paper x ≡ a
+met paper e f = ap paper (sym e) ∙ f

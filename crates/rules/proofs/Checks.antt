@@ -50,13 +50,14 @@ alike-at : {A B : Type 0} (t : Bool) (k q n p : ℕ) (x : Answer A) (y : Answer 
 alike-at true k q n p x y f e = cc
 alike-at false k q n p x y f e = f e
 
--- .. and checks that refuse one answer, or let its refusal through, refuse each by the same number, if that does
+-- .. and two answers of which the second is refused as the first is are refused alike behind the same checks
 pub checks-alike : {A B : Type 0} (cs : List Check) (n p : ℕ) (x : Answer A) (y : Answer B)
     → (x ≡ refused n p → y ≡ refused n p) → firstOf cs x ≡ refused n p → firstOf cs y ≡ refused n p
 checks-alike [] n p x y f e = f e
 checks-alike (c ∷ cs) n p x y f e =
     alike-at (c .wrong) (c .number) (c .place) n p (firstOf cs x) (firstOf cs y) (checks-alike cs n p x y f) e
 
+-- checks that refuse what is given refuse each answer, by the same number
 pub kept : {A B : Type 0} (cs : List Check) (a : A) (n p : ℕ) (y : Answer B) → firstOf cs (given a) ≡ refused n p
     → firstOf cs y ≡ refused n p
 kept cs a n p y e = checks-alike cs n p (given a) y (λ q. absurd (refused-given (sym q))) e

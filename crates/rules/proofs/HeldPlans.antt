@@ -5,12 +5,12 @@ use mathlib.Core.Path.{_≡_, refl, ap, sym, _∙_}
 use mathlib.Core.Bool.{Bool, true, false, cond}
 use mathlib.Core.List.{List, [], _∷_}
 use native.Mathlib.Omega.{arith}
-use borrow.Author.Tests.{ltb-true, leb-true, le-leb, lt-leb, le-ltb}
+use borrow.Author.Tests.{ltb-true, leb-true, le-leb, lt-leb, le-ltb, lt-ltb}
 use lib.ListN.{getD, length, take}
 use lib.Seq.{getD-take}
 use lib.Dec.{leb}
 use Rattle.rules.specs.Book.{Kind, Range, within, anything, right, numbersFrom, sizeOf, couldHold}
-use Rattle.rules.specs.Book.{reducedSingles, sequential, variables, atFits}
+use Rattle.rules.specs.Book.{reducedSingles, sequential, sequentialRule, variables, atFits}
 use Rattle.rules.specs.Book.{sequentialOf, variablesOf}
 use Rattle.rules.specs.Codes.{letterOf}
 use Rattle.rules.specs.Single.{Plan, cutTo}
@@ -23,6 +23,7 @@ use Rattle.rules.specs.Entries.{Asked, variablesEntry, reducedPlan}
 use Rattle.rules.specs.PlanRules.{Held}
 pub use Rattle.rules.specs.PlanRules.{SingleRight, VariablesRight, SequentialRight}
 use Rattle.rules.proofs.Bools.{and-left, and-right}
+use Rattle.rules.proofs.Bounded.{by-le}
 use Rattle.rules.proofs.SectionKinds.{item-columns, entry-deep}
 use Rattle.rules.proofs.Steps.{sequential-at}
 use Rattle.rules.proofs.LookUp.{held, found-held, found-under}
@@ -120,6 +121,37 @@ sequential-held e h =
       rejects =
           λ d. fits-rejects (getD e 3 0) (getD e 4 0) (getD e 5 0) (getD e 6 0) (getD e 7 0) d (sequential-fits e h);
     }
+
+-- .. and At is no more than between the lines: what agrees with both is held
+fits-between : (hA hR g nt x : ℕ) → ((d : ℕ) → leb (100000 * d + 100 * hA) (g * nt) ≡ true → d ≤ x)
+    → ((d : ℕ) → leb (g * nt + 100 * hR) (100000 * d) ≡ true → x < d) → atFits hA hR g nt x ≡ true
+unfolding atFits
+fits-between hA hR g nt x low high =
+    let above : x < (g * nt + 100 * hR + 99999) / 100000 =
+    high ((g * nt + 100 * hR + 99999) / 100000) (le-leb (g * nt + 100 * hR) _ (omega arith)) in
+    let below : (g * nt - 100 * hA) / 100000 ≤ x =
+    by-le (100 * hA) (g * nt)
+    (λ h. low ((g * nt - 100 * hA) / 100000) (le-leb _ (g * nt) (omega arith)))
+    (λ h. omega arith) in
+    rw (le-leb ((g * nt - 100 * hA) / 100000) x below, lt-ltb x ((g * nt + 100 * hR + 99999) / 100000) above)
+
+pub sequential-could : (p : SequentialPlan) → SequentialRight p
+    → couldHold sequential (0 ∷ 0 ∷ 0 ∷ p .hA ∷ p .hR ∷ p .g ∷ p .nt ∷ p .atNt ∷ []) ≡ true
+unfolding couldHold numbersFrom right sequentialRule
+sequential-could p r =
+    rw (
+      le-leb 1 (p .hA) (r .hA .0),
+      le-leb (p .hA) 65535 (r .hA .1),
+      le-leb 1 (p .hR) (r .hR .0),
+      le-leb (p .hR) 65535 (r .hR .1),
+      le-leb 1 (p .g) (r .g .0),
+      le-leb (p .g) 60000 (r .g .1),
+      le-leb 1 (p .nt) (r .nt .0),
+      le-leb (p .nt) 3150 (r .nt .1),
+      le-leb 0 (p .atNt) (omega arith),
+      le-leb (p .atNt) 65535 (r .atNt),
+      fits-between (p .hA) (p .hR) (p .g) (p .nt) (p .atNt) (r .accepts) (r .rejects),
+    )
 
 -- At the last item the verdict by At is the one that a line gives.
 pub accept-line : (p : SequentialPlan) → SequentialRight p → (d : ℕ) → onAcceptLine p (p .nt) d ≡ true

@@ -13,8 +13,7 @@ use lib.ListN.{length, getD, set, length-set}
 use lib.Seq.{getD-set-same, getD-set-other}
 use Rattle.rules.specs.Refusals.{Answer, refused, given, andThen}
 use Rattle.rules.specs.Severity.{Record, step}
-use Rattle.rules.specs.Reading.{severityRead}
-use Rattle.rules.specs.History.{Work, eventIn, placed, afterFrom, past, written}
+use Rattle.rules.specs.History.{Work, eventIn, placed, afterFrom, past, filled}
 
 pub length-past : (w : Work) (h : List ℕ) (i : ℕ) → length (past w h i) ≡ i
 unfolding past
@@ -48,28 +47,26 @@ module _ (w : Work) (h : List ℕ) where
         → refused n k ≡ step r (eventIn w (getD h i 0)) → From (length h) ≡ refused n i
     from-refused i r n k l q m = refusal-stays n i (suc i) (from-suc i ∙ rw (q, ← m)) (length h) l
 
-  module _ (out : List ℕ) where
-    pub written-length : (i : ℕ) → length (written w h out i) ≡ length out
-    unfolding written
-    written-length zero = refl
-    written-length (suc i) = length-set (written w h out i) i _ ∙ written-length i
+-- a buffer that is filled, place by place
+module _ (f : ℕ → ℕ) (out : List ℕ) where
+  pub filled-length : (i : ℕ) → length (filled f out i) ≡ length out
+  unfolding filled
+  filled-length zero = refl
+  filled-length (suc i) = length-set (filled f out i) i (f i) ∙ filled-length i
 
-    -- "the severity after each byte is written"
-    pub written-at : (i k : ℕ) → i ≤ length out → k < i
-        → getD (written w h out i) k 0 ≡ severityRead (w .permission) (past w h (suc k))
-    unfolding written
-    written-at zero k l m = absurd (omega arith)
-    written-at (suc i) k l m = go (eq-or-lt-of-le {n = k} {m = i} (omega arith)) (λ q. written-at i k (omega arith) q)
-      where
-        go : (k ≡ i) ⊎ (k < i)
-            → (k < i → getD (written w h out i) k 0 ≡ severityRead (w .permission) (past w h (suc k)))
-            → getD (set (written w h out i) i (severityRead (w .permission) (past w h (suc i)))) k 0
-            ≡ severityRead (w .permission) (past w h (suc k))
-        go (inl e) ih = rw e (getD-set-same (written w h out i) i _ 0 (omega (arith, written-length i)))
-        go (inr q) ih = getD-set-other (written w h out i) i k _ 0 (omega arith) ∙ ih q
+  -- "the severity after each byte is written"
+  pub filled-at : (i k : ℕ) → i ≤ length out → k < i → getD (filled f out i) k 0 ≡ f k
+  unfolding filled
+  filled-at zero k l m = absurd (omega arith)
+  filled-at (suc i) k l m = go (eq-or-lt-of-le {n = k} {m = i} (omega arith)) (λ q. filled-at i k (omega arith) q)
+    where
+      go : (k ≡ i) ⊎ (k < i) → (k < i → getD (filled f out i) k 0 ≡ f k)
+          → getD (set (filled f out i) i (f i)) k 0 ≡ f k
+      go (inl e) ih = rw e (getD-set-same (filled f out i) i (f i) 0 (omega (arith, filled-length i)))
+      go (inr q) ih = getD-set-other (filled f out i) i k (f i) 0 (omega arith) ∙ ih q
 
-    -- "the rest of which stays"
-    pub written-past : (i k : ℕ) → i ≤ k → getD (written w h out i) k 0 ≡ getD out k 0
-    unfolding written
-    written-past zero k m = refl
-    written-past (suc i) k m = getD-set-other (written w h out i) i k _ 0 (omega arith) ∙ written-past i k (omega arith)
+  -- "the rest of which stays"
+  pub filled-past : (i k : ℕ) → i ≤ k → getD (filled f out i) k 0 ≡ getD out k 0
+  unfolding filled
+  filled-past zero k m = refl
+  filled-past (suc i) k m = getD-set-other (filled f out i) i k (f i) 0 (omega arith) ∙ filled-past i k (omega arith)

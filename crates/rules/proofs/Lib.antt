@@ -44,6 +44,7 @@ pub mod Slips
 pub mod StagedExactly
 pub mod Stays
 pub mod Steps
+pub mod Stored
 pub mod Switches
 pub mod Tables
 pub mod Terminal

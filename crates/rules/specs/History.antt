@@ -89,11 +89,15 @@ unfoldable pub listed : Work → List ℕ → ℕ → Answer ℕ
 listed w h room =
     andThen (afterHistory w h) (λ r. firstOf ((ltb room (length h) gives bufferShort) ∷ []) (given (length h)))
 
+-- a buffer whose first i places are set, as far as it reaches, each to what f has there
+unfoldable pub filled : (ℕ → ℕ) → List ℕ → ℕ → List ℕ
+filled f out zero = out
+filled f out (suc i) = set (filled f out i) i (f i)
+
 -- "the severity after each byte is written to a lent buffer, the rest of which stays": after the first i bytes, as
 -- the written reading finds it
-unfoldable pub written : Work → List ℕ → List ℕ → ℕ → List ℕ
-written w h out zero = out
-written w h out (suc i) = set (written w h out i) i (severityRead (w .permission) (past w h (suc i)))
+abbrev pub written : Work → List ℕ → List ℕ → ℕ → List ℕ
+written w h out i = filled (λ k. severityRead (w .permission) (past w h (suc k))) out i
 
 -- what the buffer then holds; a refusal "writes nothing"
 abbrev pub leftIn : Answer ℕ → Work → List ℕ → List ℕ → List ℕ

@@ -164,21 +164,30 @@ abbrev pub refusedLine : ℕ → ℕ → List ℕ
 refusedLine line number = printed (decimal line) (ascii "refused" ∷ decimal number ∷ [])
 
 -- "line, severity used (N, T, R), letter, size, Ac, verdict, severity after (N, T, R, or X stopped), score after"
-abbrev pub lotText : ℕ → Record → Closed Plan → List ℕ
-lotText line r c =
+abbrev pub lotPrinted : ℕ → ℕ → Plan → Bool → ℕ → ℕ → List ℕ
+lotPrinted line used plan accepted severity score =
     printed (decimal line)
-    (severityName (r .severity)
-    ∷ letterName (c .judged .plan .letter)
-    ∷ decimal (c .judged .plan .n)
-    ∷ decimal (c .judged .plan .ac)
-    ∷ verdictName (c .judged .verdict .accepted)
-    ∷ severityName (c .recordAfter .severity)
-    ∷ decimal (c .recordAfter .score)
+    (severityName used
+    ∷ letterName (plan .letter)
+    ∷ decimal (plan .n)
+    ∷ decimal (plan .ac)
+    ∷ verdictName accepted
+    ∷ severityName severity
+    ∷ decimal score
     ∷ [])
 
+abbrev pub lotText : ℕ → Record → Closed Plan → List ℕ
+lotText line r c =
+    lotPrinted line (r .severity) (c .judged .plan) (c .judged .verdict .accepted) (c .recordAfter .severity)
+    (c .recordAfter .score)
+
 -- "An accepted order prints its line number, "order", severity and score after."
+abbrev pub orderPrinted : ℕ → ℕ → ℕ → List ℕ
+orderPrinted line severity score =
+    printed (decimal line) (ascii "order" ∷ severityName severity ∷ decimal score ∷ [])
+
 abbrev pub orderText : ℕ → Record → List ℕ
-orderText line r = printed (decimal line) (ascii "order" ∷ severityName (r .severity) ∷ decimal (r .score) ∷ [])
+orderText line r = orderPrinted line (r .severity) (r .score)
 
 -- What a line prints, and the record after it.
 pub record Logged : Type 0 where

@@ -25,7 +25,7 @@ use Rattle.plans.specs.declared.Outcome.the-variants as outcomes
 use Rattle.plans.specs.declared.VerdictAnswer.{VerdictAnswer}
 use Rattle.plans.specs.declared.VerdictAnswer.the-variants as verdicts
 use Rattle.plans.specs.Paper.{beside, outcomeOn, verdictAnswer, verdictOn, itself}
-use Rattle.plans.proofs.Standing.{beside-answer}
+use Rattle.plans.proofs.Standing.{beside-answer, planned-refused, planned-given}
 use Rattle.sentencing.specs.Paper.{withoutLetter, planned}
 use Rattle.sentencing.proofs.Supplies.{refused-alike, checked-once}
 
@@ -39,10 +39,10 @@ unplanned-beside {P} {zeros} {plan} {n} {p} e =
 module _ {P : Type 0} (zeros : P) (a : Answer P) (o : Outcome) (plan : P)
     (h : record { answer = outcomeOn o plan; plan = plan } ≡ beside zeros itself a) where
   pub single-refused : (n p : ℕ) → o ≡ outcomes.Refused n p → a ≡ refused n p
-  single-refused n p e = sym (beside-answer zeros itself _ a h) ∙ rw e
+  single-refused n p e = sym (planned-refused zeros h e)
 
   pub single-given : o ≡ outcomes.Given → a ≡ given plan
-  single-given e = sym (beside-answer zeros itself _ a h) ∙ rw e
+  single-given e = sym (planned-given zeros h e)
 
 module _ {P : Type 0} (zeros : P) (q : Asked) (a : Answer P) (o : Outcome) (l : ℕ) (plan : P)
     (h : planned o l plan ≡ beside (withoutLetter zeros) itself (lettered q a)) where

@@ -11,7 +11,6 @@ use super::judging::StagedJudged;
 use super::judging::judge_single;
 use super::judging::judge_staged;
 use super::planning::first_refusal;
-use super::planning::no_stages;
 use closing::ClosedAnswer;
 use closing::Offered;
 use closing::SingleClosed;
@@ -45,7 +44,7 @@ fn staged_closed(plan: StagedPlan, answer: ClosedAnswer) -> StagedClosed
     match answer {
         ClosedAnswer::Refused(number, place) => StagedClosed {
             answer: ClosedAnswer::Refused(number, place),
-            plan: no_stages(),
+            plan: entry::no_stages(),
         },
         ClosedAnswer::Given(closed) => StagedClosed {
             answer: ClosedAnswer::Given(closed),
@@ -87,7 +86,7 @@ pub fn close_staged(old: Record, lot: Offered, book: &[u8], sample: &[u8]) -> St
     }
     let first = first_refusal(book, UNKNOWN_FORM, 0);
     staged_closed(
-        no_stages(),
+        entry::no_stages(),
         ClosedAnswer::Refused(first.number, first.place),
     )
 }

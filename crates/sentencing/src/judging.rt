@@ -9,7 +9,6 @@ ghost use Rattle.sentencing.specs.Paper.{zeroSequential, zeroVariables};
 ghost use Rattle.sentencing.specs.Paper.{stagedJudged, sequentialJudged, variablesJudged};
 use super::planning::no_readings;
 use super::planning::no_sequence;
-use super::planning::no_stages;
 use super::planning::sequential_plan;
 use super::planning::single_plan;
 use super::planning::staged_plan;
@@ -67,7 +66,7 @@ fn staged_judged(plan: StagedPlan, answer: VerdictAnswer) -> StagedJudged
     match answer {
         VerdictAnswer::Refused(number, place) => StagedJudged {
             answer: VerdictAnswer::Refused(number, place),
-            plan: no_stages(),
+            plan: entry::no_stages(),
         },
         VerdictAnswer::Given(verdict) => StagedJudged {
             answer: VerdictAnswer::Given(verdict),

@@ -20,10 +20,9 @@ use plans::Asked;
 use plans::LetterAnswer;
 use plans::NO_PLAN;
 use plans::Outcome;
+use plans::REDUCED;
 use plans::SinglePlan;
 use plans::SinglePlanned;
-
-const UNDER_REDUCED: u32 = 2;
 
 pub(crate) struct Refusal {
     pub(crate) number: u8,
@@ -101,7 +100,7 @@ pub fn single_plan(lot: Asked, book: &[u8]) -> SinglePlanned
     ensures { λ r. ⌜ plannedPaper r
         ≡ beside zeroPlan itself (singlePlan (askedPaper lot) (now (book .entry))) ⌝ }
 {
-    if lot.severity == UNDER_REDUCED {
+    if lot.severity == REDUCED {
         return reduced_plan(lot, book);
     }
     match book::check_book(book) {
@@ -129,24 +128,13 @@ pub struct VariablesPlanned {
     pub plan: VariablesPlan,
 }
 
-pub(crate) fn no_stages() -> StagedPlan
-    ensures { λ r. ⌜ stagedPaper r ≡ noStages ⌝ }
-{
-    StagedPlan {
-        stages: 0,
-        sizes: [0u16; 7],
-        acs: [0u16; 7],
-        res: [0u16; 7],
-    }
-}
-
 fn staged_unplanned(number: u8, place: usize) -> StagedPlanned
     ensures { λ r. ⌜ stagedPlanned r ≡ beside (withoutLetter noStages) itself (refused number place) ⌝ }
 {
     StagedPlanned {
         answer: Outcome::Refused(number, place),
         letter: 0,
-        plan: no_stages(),
+        plan: entry::no_stages(),
     }
 }
 

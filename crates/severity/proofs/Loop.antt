@@ -9,9 +9,9 @@ use native.Mathlib.Omega.{arith}
 use native.Mathlib.Numerals.{add-one}
 use lib.ListN.{length, getD, set}
 use lib.Seq.{set-out}
-use Rattle.rules.specs.Refusals.{Answer, refused, given}
+use Rattle.rules.specs.Refusals.{refused, given}
 use Rattle.rules.specs.Severity.{Record, Event, step, inRange}
-use Rattle.rules.specs.History.{Work, ours, eventIn, byteOf}
+use Rattle.rules.specs.History.{Work, ours, eventIn, byteOf, filled}
 use Rattle.rules.specs.Entries.{onRecord}
 use Rattle.rules.proofs.Histories.{From, from-refused}
 use Rattle.rules.proofs.Runs.{one-byte}
@@ -20,13 +20,9 @@ use Rattle.severity.specs.declared.Stepped.{Stepped}
 use Rattle.severity.specs.declared.Stepped.the-variants.{Refused, Given}
 use Rattle.severity.specs.Paper.{recordPaper, steppedPaper, writtenFrom, Walks}
 
--- which case the step's answer is
-pub stepped-as : {m x : Stepped} {a : Answer Record} → m ≡ x → steppedPaper m ≡ a → steppedPaper x ≡ a
-stepped-as e q = ap steppedPaper (sym e) ∙ q
-
 module _ (w : Work) (start : Record) (h out : List ℕ) where
   pub walked-first : out ≡ writtenFrom w start h out 0
-  unfolding writtenFrom
+  unfolding filled
   walked-first = refl
 
   module _ (t : Bool) (q : t ≡ inRange start) where
@@ -49,7 +45,7 @@ module _ (w : Work) (start : Record) (h out : List ℕ) where
   module _ (buffer : List ℕ) (i : ℕ) (b : buffer ≡ writtenFrom w start h out i) {r : Record}
       (q : From w h start (i + 1) ≡ given r) where
     pub walked-more : set buffer i (r .severity) ≡ writtenFrom w start h out (i + 1)
-    unfolding writtenFrom
+    unfolding filled
     walked-more = rw (add-one, b, rw add-one at q)
 
     pub walked-past : length buffer ≤ i → buffer ≡ writtenFrom w start h out (i + 1)

@@ -1,9 +1,9 @@
 -- Document 01's numbers and values for each case of the types of this crate, and what its functions promise in them.
 -- Definitions only.
-use Prim.Native.Nat.{ℕ, zero, suc, _≤_}
+use Prim.Native.Nat.{ℕ, suc, _≤_}
 use mathlib.Core.Path.{_≡_}
 use mathlib.Core.List.{List}
-use lib.ListN.{length, set}
+use lib.ListN.{length}
 use Rattle.rules.specs.Refusals.{Answer, refused, given}
 use Rattle.rules.specs.Severity as paper
 use Rattle.rules.specs.History as histories
@@ -63,10 +63,9 @@ severityOf (given r) = r .severity
 
 -- A history that goes on from a record: its severities after the first i bytes, written to a buffer, as far as that
 -- reaches.
-unfoldable pub writtenFrom : histories.Work → paper.Record → List ℕ → List ℕ → ℕ → List ℕ
-writtenFrom w r h out zero = out
-writtenFrom w r h out (suc i) =
-    set (writtenFrom w r h out i) i (severityOf (histories.afterFrom r (histories.past w h (suc i))))
+abbrev pub writtenFrom : histories.Work → paper.Record → List ℕ → List ℕ → ℕ → List ℕ
+writtenFrom w r h out i =
+    histories.filled (λ k. severityOf (histories.afterFrom r (histories.past w h (suc k)))) out i
 
 -- how many of its bytes were taken: all, or those before the first bad one (none, for a record out of range)
 abbrev pub takenBy : Answer paper.Record → ℕ → ℕ

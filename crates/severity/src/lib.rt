@@ -34,8 +34,8 @@ pub struct Work {
     pub resubmission: bool,
 }
 
-// The window is five bits, the newest lot in the lowest, 1 for a lot not accepted. No two of score, run, count and window
-// stand side by side: the compiler would keep them as one wide number, and take it apart at every step.
+// The window is five bits, the newest lot in the lowest, 1 for a lot not accepted. No two of score, run, count and
+// window stand side by side: the compiler would keep them as one wide number, and take it apart at every step.
 pub struct Record {
     pub score: u8,
     pub severity: u8,

@@ -39,6 +39,7 @@ use Rattle.rules.proofs.Walks.{place, place-sections}
 use Rattle.rules.proofs.Refusals.{nothing-wrong, refused-place}
 use Rattle.rules.proofs.EntryLaws.{on-book}
 use Rattle.rules.proofs.Deciding.{never-past}
+use Rattle.rules.proofs.LookUp.{broken-unsound}
 use Rattle.rules.proofs.GivenPlans.{single-given, staged-given, sequential-given, variables-given}
 use Rattle.rules.proofs.Demands.Two as two
 use Rattle.terminal.proofs.Lending.{in-range-length}
@@ -47,16 +48,13 @@ use Rattle.terminal.proofs.Lending.{in-range-length}
 byte-of : {b c : ℕ} → brokenAt b ≡ brokenAt c → b ≡ c
 byte-of e = cc
 
-sound-whole : {P : Type 0} {b : ℕ} → sound ≡ brokenAt b → P
-sound-whole e = let z : _≡_ {A = ℕ} 0 1 = cc in let y : ⊥ = omega arith in absurd y
-
 walk-byte : (len : ℕ) (w : Walk) (b : ℕ) → 2 * place w ≤ len → checkedAs len w ≡ brokenAt b → b ≤ len
 unfolding place checkedAs
 walk-byte len (ends p) b h e = go (ltb (2 * p) len) e
   where
     go : (t : Bool) → cond t (brokenAt (2 * p)) sound ≡ brokenAt b → b ≤ len
     go true f = rw (← byte-of f) h
-    go false f = sound-whole f
+    go false f = broken-unsound (sym f)
 walk-byte len (broken p) b h e = rw (← byte-of e) h
 walk-byte len short b h e = rw (← byte-of e) (omega arith)
 

@@ -2,7 +2,7 @@
 -- refusal and an answer leave.
 -- Assumes nothing.
 use Prim.Native.Nat.{ℕ, _+_, _*_, _≤_, _<_, min}
-use mathlib.Core.Path.{_≡_, refl, sym, ap, _∙_}
+use mathlib.Core.Path.{_≡_, refl, sym, _∙_}
 use mathlib.Core.Bool.{Bool, true, false, false≢true}
 use mathlib.Core.List.{List, [], _∷_, _++_}
 use native.Mathlib.Omega.{arith}
@@ -25,8 +25,7 @@ use Rattle.rules.specs.Entries.{next, Lettered, Closed}
 use Rattle.rules.proofs.Demands.Two as two
 use Rattle.rules.proofs.Bools.{and-left}
 use Rattle.rules.proofs.Terminal.{form-missing}
-use Rattle.plans.specs.Paper.{beside, itself, outcomeOn, verdictAnswer, verdictOn}
-use Rattle.plans.specs.declared.Outcome.{Outcome}
+use Rattle.plans.specs.Paper.{verdictAnswer, verdictOn}
 use Rattle.plans.specs.declared.Outcome.the-variants as outcomes
 use Rattle.plans.specs.declared.VerdictAnswer.{VerdictAnswer}
 use Rattle.plans.specs.declared.VerdictAnswer.the-variants as verdicts
@@ -40,7 +39,8 @@ use Rattle.closing.specs.declared.ClosedAnswer.{ClosedAnswer}
 use Rattle.closing.specs.declared.ClosedAnswer.the-variants as closes
 use Rattle.terminal.specs.Lent.{LetterLeft, PlanLeft, StagedPlanLeft, SequentialPlanLeft, VariablesPlanLeft}
 use Rattle.terminal.specs.Lent.{OutcomeLeft, VerdictTold, VerdictLeft, ClosedLeft, NextLeft, ListLeft, ScreenLeft}
-pub use Rattle.plans.proofs.Standing.{beside-answer}
+pub use Rattle.rules.proofs.Answers.{met}
+pub use Rattle.plans.proofs.Standing.{beside-answer, planned-refused, planned-given}
 
 module _ (bytes : List ℕ) where
   -- the figures of bytes of the right form
@@ -107,29 +107,9 @@ pub next-length : (bytes : List ℕ) (byte : ℕ) {t : Record} → given t ≡ n
 next-length bytes byte {t} e =
     in-range-length bytes (two.next-given (recordIn bytes) ours byte t .0 (sym e) .0)
 
--- the case that the code meets is the definition's answer
-pub met : {R A : Type 0} (paper : R → Answer A) {r x : R} {a : Answer A} → r ≡ x → paper r ≡ a → paper x ≡ a
-met paper e f = ap paper (sym e) ∙ f
-
+-- what the code's case tells
 pub told : {R A : Type 0} (paper : R → Answer A) {r x : R} → r ≡ x → paper x ≡ paper r
-told paper e = ap paper (sym e)
-
--- what an answer with a plan beside it says: refused, or given that plan
-module _ {P : Type 0} (zeros : P) {o : Outcome} {plan : P} {a : Answer P} where
-  -- the case that it came to
-  outcome-met : {x : Outcome} → record { answer = outcomeOn o plan; plan = plan } ≡ beside zeros itself a → o ≡ x
-      → outcomeOn x plan ≡ a
-  outcome-met e f =
-      met (λ (y : Outcome). outcomeOn y plan) f
-      (beside-answer zeros itself (record { answer = outcomeOn o plan; plan = plan }) a e)
-
-  pub planned-refused : {n p : ℕ} → record { answer = outcomeOn o plan; plan = plan } ≡ beside zeros itself a
-      → o ≡ outcomes.Refused n p → refused n p ≡ a
-  planned-refused e f = outcome-met e f
-
-  pub planned-given : record { answer = outcomeOn o plan; plan = plan } ≡ beside zeros itself a → o ≡ outcomes.Given
-      → given plan ≡ a
-  planned-given e f = outcome-met e f
+told paper e = met paper e refl
 
 -- What a refusal and an answer tell and leave.
 module _ {A : Type 0} {a : Answer A} where

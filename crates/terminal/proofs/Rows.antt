@@ -9,6 +9,7 @@ use lib.Seq.{sets, sets-eq, drop-cons}
 use Rattle.rules.specs.Numbers.{numberBytes}
 use Rattle.rules.specs.Terminal.{rowLength}
 use Rattle.rules.proofs.Numbers.{bytes-twice}
+use Rattle.rules.proofs.Stored.{sets-append}
 
 -- Seven numbers: what is still to be stored from the i-th on, before the first, past each, and past the last.
 module _ (row ns : List ℕ) (from : ℕ) where
@@ -34,11 +35,6 @@ module _ (row ns : List ℕ) (from : ℕ) where
       → row ≡ sets start from (numberBytes ns)
   unfolding numberBytes
   seven-done start i h e = sym (rw (drop-of-length-le ns h)) ∙ e
-
-sets-append : (row xs ys : List ℕ) (i : ℕ) → sets row i (xs ++ ys) ≡ sets (sets row i xs) (i + length xs) ys
-sets-append row [] ys i = let e : i + 0 ≡ i = omega arith in rw e
-sets-append row (x ∷ xs) ys i =
-    let e : i + suc (length xs) ≡ suc i + length xs = omega arith in rw e (sets-append (set row i x) xs ys (suc i))
 
 bytes-append : (xs ys : List ℕ) → numberBytes (xs ++ ys) ≡ numberBytes xs ++ numberBytes ys
 unfolding numberBytes

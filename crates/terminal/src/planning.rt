@@ -14,15 +14,13 @@ ghost use Rattle.terminal.specs.Lent.{VariablesPlanLeft, bookChecked};
 use super::telling::status;
 use book::BookAnswer;
 use entry::StagedPlan;
+use history::BUFFER_SHORT;
 use plans::Asked;
 use plans::LetterAnswer;
 use plans::Outcome;
 
 // A lent row of a staged plan is that long.
 const ROW_BYTES: usize = 42;
-
-// 11: "buffer shorter"
-const BUFFER_SHORT: u8 = 11;
 
 // The letter of Table 1.
 #[no_mangle]

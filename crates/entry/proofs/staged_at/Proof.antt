@@ -1,5 +1,6 @@
 -- `entry::staged_at` meets its contract.
 -- Assumes nothing.
+use mathlib.Core.Path.{_∙_}
 use native.Mathlib.Omega.{arith}
 use denote.Ref.{now}
 use Rattle.rules.specs.Numbers.{numbersOf}
@@ -9,7 +10,9 @@ use Rattle.entry.proofs.staged_at.Statement.{statement}
 use Rattle.entry.proofs.staged_at.Tie as tie
 
 returns : tie.Need-returns
-returns c = staged-many (numbersOf (now (c .before .before .before .args .e))) (omega arith)
+returns c =
+    c .no-stages .ensures
+    ∙ staged-many (numbersOf (now (c .before .before .before .before .args .e))) (omega arith)
 
 returns-2 : tie.Need-returns-2
 returns-2 c =
@@ -25,6 +28,7 @@ pub staged-at-spec : {M : Type 1} → statement M
 staged-at-spec =
     tie.close
     (tie.spec
+    (λ c κs. search needs)
     (λ c κs. search needs)
     returns
     (λ c. search needs)

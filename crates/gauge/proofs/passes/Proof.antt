@@ -43,9 +43,6 @@ mul-result c = omega (arith, bounds c)
 mul-result-2 : tie.Need-mul-result-2
 mul-result-2 c = omega (arith, bounds c)
 
-sub-result : tie.Need-sub-result
-sub-result c = omega arith
-
 mul-result-4 : tie.Need-mul-result-4
 mul-result-4 c = omega (arith, bounds c)
 
@@ -59,4 +56,4 @@ pub passes-spec : {M : Type 1} → statement M
 passes-spec =
     tie.close
     (tie.spec returns (λ c κs. search needs) (λ c κs. search needs) mul-w mul-w-2 mul-result mul-result-2
-    (λ c. search needs) sub-result mul-result-4 mul-result-5 add-result returns-2)
+    (λ c. search needs) (λ c. omega arith) mul-result-4 mul-result-5 add-result returns-2)

@@ -29,21 +29,6 @@ returns-2 c =
     let r = c .before .before .raised-reading .ensures .0 in
     stopped-above _ _ _ _ _ _ p (c .before .before .before .loop-test .taken) r (c .if2 .taken)
 
-square-requires : tie.Need-square-requires Inv-loop μ-loop
-square-requires c κs = omega arith
-
-add-t : tie.Need-add-t Inv-loop μ-loop
-add-t c = omega arith
-
-add-q : tie.Need-add-q Inv-loop μ-loop
-add-q c = omega arith
-
-add-i : tie.Need-add-i Inv-loop μ-loop
-add-i c = omega arith
-
-loop-less : tie.Need-loop-less Inv-loop μ-loop
-loop-less c = omega arith
-
 loop-again : tie.Need-loop-again Inv-loop μ-loop
 loop-again c =
     let p = c .before .before .before .before .before .loop .inv in
@@ -58,4 +43,5 @@ pub sum-up-spec : {M : Type 1} → statement M
 sum-up-spec =
     tie.close
     (tie.spec Inv-loop μ-loop (λ c κs. search needs) loop-holds (λ c κs. search needs) returns returns-2
-    square-requires add-t add-q add-i loop-less loop-again returns-3)
+    (λ c κs. omega arith) (λ c. omega arith) (λ c. omega arith) (λ c. omega arith) (λ c. omega arith) loop-again
+    returns-3)

@@ -26,15 +26,6 @@ returns-2 c = search (needs, reads-low)
 returns-3 : tie.Need-returns-3 Inv-loop μ-loop
 returns-3 c = search (needs, reads-high)
 
-mul-value : tie.Need-mul-value Inv-loop μ-loop
-mul-value c = omega arith
-
-cast-value : tie.Need-cast-value Inv-loop μ-loop
-cast-value c = omega arith
-
-add-value : tie.Need-add-value Inv-loop μ-loop
-add-value c = omega arith
-
 returns-4 : tie.Need-returns-4 Inv-loop μ-loop
 returns-4 c = search (needs, reads-over)
 
@@ -48,5 +39,5 @@ pub number-spec : {M : Type 1} → statement M
 number-spec =
     tie.close
     (tie.spec Inv-loop μ-loop loop-holds (λ c. search needs) close-field-requires (λ c. search needs) returns-2
-    returns-3 mul-value cast-value add-value returns-4 (λ c. search needs) (λ c. search needs) loop-again
-    close-field-requires-2 (λ c. search needs))
+    returns-3 (λ c. omega arith) (λ c. omega arith) (λ c. omega arith) returns-4 (λ c. search needs)
+    (λ c. search needs) loop-again close-field-requires-2 (λ c. search needs))

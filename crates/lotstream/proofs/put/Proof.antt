@@ -22,18 +22,9 @@ abbrev μ-loop : tie.MeasureT-loop
 loop-holds : tie.Need-loop-holds Inv-loop μ-loop
 loop-holds c = search (needs, text-first)
 
-add-output : tie.Need-add-output Inv-loop μ-loop
-add-output c = omega arith
-
-slice-write-output : tie.Need-slice-write-output Inv-loop μ-loop
-slice-write-output c = omega arith
-
 loop-again : tie.Need-loop-again Inv-loop μ-loop
 loop-again c =
     (omega arith, search needs, text-more _ _ _ _ (c .before .loop-test .taken) ∙ c .before .before .loop .inv .2)
-
-add-result : tie.Need-add-result Inv-loop μ-loop
-add-result c = omega arith
 
 returns : tie.Need-returns Inv-loop μ-loop
 returns c = search (needs, put-done)
@@ -41,5 +32,5 @@ returns c = search (needs, put-done)
 pub put-spec : {M : Type 1} → statement M
 put-spec =
     tie.close
-    (tie.spec Inv-loop μ-loop loop-holds (λ c. search needs) add-output slice-write-output (λ c. search needs)
-    (λ c. search needs) loop-again add-result (λ c. search needs) returns)
+    (tie.spec Inv-loop μ-loop loop-holds (λ c. search needs) (λ c. omega arith) (λ c. omega arith) (λ c. search needs)
+    (λ c. search needs) loop-again (λ c. omega arith) (λ c. search needs) returns)

@@ -28,6 +28,7 @@ returns c =
     let put = put-line shown refl (start .pre) (c .before .before .put .ensures) in
     record {
       text = put .0;
+      state = refl;
       fits = put .1;
       long = refl;
       taken = refl;

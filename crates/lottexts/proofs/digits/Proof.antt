@@ -17,9 +17,6 @@ Inv-loop n count₀ left₀ count left = (count + length (decimal left) ≡ leng
 abbrev μ-loop : tie.MeasureT-loop
 μ-loop n count₀ left₀ count left = left
 
-loop-holds : tie.Need-loop-holds Inv-loop μ-loop
-loop-holds c = omega arith
-
 add-count : tie.Need-add-count Inv-loop μ-loop
 add-count c = omega (arith, decimal-within 19 (c .before .before .args .n) (omega arith))
 
@@ -38,4 +35,4 @@ returns c = omega (arith, digit-one _ (c .loop-test .left))
 
 pub digits-spec : {M : Type 1} → statement M
 digits-spec =
-    tie.close (tie.spec Inv-loop μ-loop loop-holds add-count loop-less loop-again returns)
+    tie.close (tie.spec Inv-loop μ-loop (λ c. omega arith) add-count loop-less loop-again returns)

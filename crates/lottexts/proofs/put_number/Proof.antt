@@ -21,9 +21,6 @@ Inv-loop out₀ at n end i₀ left₀ out i left =
 abbrev μ-loop : tie.MeasureT-loop
 μ-loop out₀ at n end i₀ left₀ out i left = left
 
-add-end : tie.Need-add-end Inv-loop μ-loop
-add-end c = omega arith
-
 loop-holds : tie.Need-loop-holds Inv-loop μ-loop
 loop-holds c = (omega arith, omega arith, omega arith, refl)
 
@@ -35,9 +32,6 @@ cast-out c = omega (arith, mod-lt (c .before .loop .left) {m = 10} (omega arith)
 
 add-out : tie.Need-add-out Inv-loop μ-loop
 add-out c = omega (arith, mod-lt (c .before .loop .left) {m = 10} (omega arith))
-
-element-write-out : tie.Need-element-write-out Inv-loop μ-loop
-element-write-out c = omega arith
 
 loop-less : tie.Need-loop-less Inv-loop μ-loop
 loop-less c = div-lt-self (omega arith) (omega arith)
@@ -51,12 +45,6 @@ loop-again c =
       digit-stored _ _ _ _ (c .before
           .loop .inv .2) (omega arith) (omega arith) ∙ c .before .loop .inv .3,
     )
-
-cast-out-2 : tie.Need-cast-out-2 Inv-loop μ-loop
-cast-out-2 c = omega arith
-
-add-out-2 : tie.Need-add-out-2 Inv-loop μ-loop
-add-out-2 c = omega arith
 
 element-write-out-2 : tie.Need-element-write-out-2 Inv-loop μ-loop
 element-write-out-2 c = omega (arith, digit-one (c .before .loop .left) (omega arith))
@@ -73,5 +61,5 @@ returns c =
 pub put-number-spec : {M : Type 1} → statement M
 put-number-spec =
     tie.close
-    (tie.spec Inv-loop μ-loop (λ c κs. search needs) add-end loop-holds sub-i cast-out add-out element-write-out
-    loop-less loop-again cast-out-2 add-out-2 element-write-out-2 returns)
+    (tie.spec Inv-loop μ-loop (λ c κs. search needs) (λ c. omega arith) loop-holds sub-i cast-out add-out
+    (λ c. omega arith) loop-less loop-again (λ c. omega arith) (λ c. omega arith) element-write-out-2 returns)

@@ -33,7 +33,7 @@ use Rattle.rules.specs.Entries.{singleCounts, stagedCounts, closeSingle,
 use Rattle.rules.specs.Severity.{lot, Record, fresh, step, inRange}
 use Rattle.rules.specs.Variables.{VariablesPlan, allInGauge, readingsOf, judgeReadings, sumZ, squaresZ}
 use Rattle.rules.specs.History.{Work, eventIn, afterHistory, listed, leftIn}
-use Rattle.rules.proofs.Histories.{from-refused, written-length, written-at, written-past}
+use Rattle.rules.proofs.Histories.{from-refused, filled-length, filled-at, filled-past}
 use Rattle.rules.specs.Screen.{Shown, screen, shownOf}
 use Rattle.rules.specs.Reporting.{NoRow, OnBook, Reports, Row, Then}
 use Rattle.rules.specs.Judging.{EndsAtItem, EndsAtStage, ItemRows, ItemsJudged, MeetsInStage, MeetsItem}
@@ -589,9 +589,9 @@ module _ (w : Work) (h : List ℕ) where
         let p = listed-given (length out) m .0 g in
         subst (λ (a : Answer ℕ). BufferListed w h out (leftIn a w h out)) (ap given (p .2) ∙ sym g)
         record {
-          same-length = written-length w h out (length h);
-          severities = λ k l. written-at w h out (length h) k (p .1) l;
-          rest = λ k l. written-past w h out (length h) k l;
+          same-length = filled-length _ out (length h);
+          severities = λ k l. filled-at _ out (length h) k (p .1) l;
+          rest = λ k l. filled-past _ out (length h) k l;
         }
 
     -- "A refusal .. writes nothing"

@@ -28,21 +28,6 @@ returns c =
     let at = c .before .before .before .loop .inv .3 in
     sym (sequential-over at (omega arith) (c .before .number .ensures .0) (c .if1 .taken))
 
-add-d : tie.Need-add-d Inv-loop μ-loop
-add-d c = omega arith
-
-add-i : tie.Need-add-i Inv-loop μ-loop
-add-i c = omega arith
-
-item-decides-requires : tie.Need-item-decides-requires Inv-loop μ-loop
-item-decides-requires c κs = omega arith
-
-cast-t12 : tie.Need-cast-t12 Inv-loop μ-loop
-cast-t12 c = omega arith
-
-ended-with-requires : tie.Need-ended-with-requires Inv-loop μ-loop
-ended-with-requires c κs = omega arith
-
 returns-2 : tie.Need-returns-2 Inv-loop μ-loop
 returns-2 c =
     let d = c .before .before .before .before in
@@ -54,9 +39,6 @@ returns-2 c =
 
 enum-told : tie.Need-enum-told Inv-loop μ-loop
 enum-told c = search needs
-
-loop-less : tie.Need-loop-less Inv-loop μ-loop
-loop-less c = omega arith
 
 loop-again : tie.Need-loop-again Inv-loop μ-loop
 loop-again c =
@@ -75,6 +57,6 @@ returns-3 c = sym (sequential-short (c .before .loop .inv .3) (omega arith))
 pub sequential-sample-spec : {M : Type 1} → statement M
 sequential-sample-spec =
     tie.close
-    (tie.spec Inv-loop μ-loop (λ c κs. search needs) loop-holds (λ c κs. search needs) returns add-d add-i
-    item-decides-requires (λ c. search needs) cast-t12 ended-with-requires returns-2 enum-told loop-less loop-again
-    returns-3)
+    (tie.spec Inv-loop μ-loop (λ c κs. search needs) loop-holds (λ c κs. search needs) returns (λ c. omega arith)
+    (λ c. omega arith) (λ c κs. omega arith) (λ c. search needs) (λ c. omega arith) (λ c κs. omega arith) returns-2
+    enum-told (λ c. omega arith) loop-again returns-3)

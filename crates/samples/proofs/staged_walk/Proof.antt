@@ -28,9 +28,6 @@ abbrev μ-loop : tie.MeasureT-loop
 loop-holds : tie.Need-loop-holds Inv-loop μ-loop
 loop-holds c = (omega arith, omega arith, omega arith, omega arith, staged-start _ _ _)
 
-take-items-requires : tie.Need-take-items-requires Inv-loop μ-loop
-take-items-requires c κs = omega arith
-
 -- the stage's size is the plan's
 sized : (c : tie.After-stage-at Inv-loop μ-loop)
     → c .stage-at .result .size
@@ -51,18 +48,6 @@ returns-2 c =
     let so = sym (k .take-items .ensures .0) ∙ ap (takenPaper _) (c .enum-told2 .given .1) in
     sym (staged-over (w .before .before .loop .inv .4) (omega arith) (sized w) so)
 
-add-used : tie.Need-add-used Inv-loop μ-loop
-add-used c = omega arith
-
-cast-t16 : tie.Need-cast-t16 Inv-loop μ-loop
-cast-t16 c = omega arith
-
-add-t17 : tie.Need-add-t17 Inv-loop μ-loop
-add-t17 c = omega arith
-
-cast-t18 : tie.Need-cast-t18 Inv-loop μ-loop
-cast-t18 c = omega arith
-
 ended-with-requires : tie.Need-ended-with-requires Inv-loop μ-loop
 ended-with-requires c κs =
     let t = c .before .before .before .before .before in
@@ -82,12 +67,6 @@ returns-3 c =
     ∙ sym (d .stage-decides .ensures) ∙ ap decisionPaper (c .before .before .accepted .given .1) in
     c .ended-with .ensures
     ∙ sym (staged-decides (w .before .before .loop .inv .4) (omega arith) (sized w) took _ so)
-
-add-i : tie.Need-add-i Inv-loop μ-loop
-add-i c = omega arith
-
-loop-less : tie.Need-loop-less Inv-loop μ-loop
-loop-less c = omega arith
 
 loop-again : tie.Need-loop-again Inv-loop μ-loop
 loop-again c =
@@ -112,29 +91,8 @@ returns-4 c = sym (staged-done (c .before .loop .inv .4) (omega arith))
 pub staged-walk-spec : {M : Type 1} → statement M
 staged-walk-spec =
     tie.close
-    (tie.spec
-    Inv-loop
-    μ-loop
-    (λ c. search needs)
-    loop-holds
-    (λ c κs. search needs)
-    (λ c. search needs)
-    take-items-requires
-    (λ c. search needs)
-    returns
-    (λ c. search needs)
-    returns-2
-    (λ c. search needs)
-    add-used
-    (λ c κs. search needs)
-    (λ c. search needs)
-    cast-t16
-    add-t17
-    cast-t18
-    ended-with-requires
-    returns-3
-    (λ c. search needs)
-    add-i
-    loop-less
-    loop-again
-    returns-4)
+    (tie.spec Inv-loop μ-loop (λ c. search needs) loop-holds (λ c κs. search needs) (λ c. search needs)
+    (λ c κs. omega arith) (λ c. search needs) returns (λ c. search needs) returns-2 (λ c. search needs)
+    (λ c. omega arith) (λ c κs. search needs) (λ c. search needs) (λ c. omega arith) (λ c. omega arith)
+    (λ c. omega arith) ended-with-requires returns-3 (λ c. search needs) (λ c. omega arith) (λ c. omega arith)
+    loop-again returns-4)

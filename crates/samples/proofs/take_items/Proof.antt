@@ -17,9 +17,6 @@ Inv-loop column k total sample from count end t₀ i₀ t i =
 abbrev μ-loop : tie.MeasureT-loop
 μ-loop column k total sample from count end t₀ i₀ t i = end - i
 
-add-end : tie.Need-add-end Inv-loop μ-loop
-add-end c = omega arith
-
 loop-holds : tie.Need-loop-holds Inv-loop μ-loop
 loop-holds c = (omega arith, omega arith, omega arith, taking-start _ _ _ _ _)
 
@@ -35,15 +32,6 @@ returns-2 c =
           (c .before .before .number .ensures .0) (sym (c .before .is-illegal .ensures) ∙ c .if2 .taken)),
       omega arith,
     )
-
-add-t : tie.Need-add-t Inv-loop μ-loop
-add-t c = omega arith
-
-add-i : tie.Need-add-i Inv-loop μ-loop
-add-i c = omega arith
-
-loop-less : tie.Need-loop-less Inv-loop μ-loop
-loop-less c = omega arith
 
 loop-again : tie.Need-loop-again Inv-loop μ-loop
 loop-again c =
@@ -61,5 +49,5 @@ returns-3 c = (sym (taking-done (c .before .loop .inv .3) (omega arith)), omega 
 pub take-items-spec : {M : Type 1} → statement M
 take-items-spec =
     tie.close
-    (tie.spec Inv-loop μ-loop (λ c κs. search needs) add-end loop-holds returns (λ c κs. search needs)
-    (λ c κs. search needs) returns-2 add-t add-i loop-less loop-again returns-3)
+    (tie.spec Inv-loop μ-loop (λ c κs. search needs) (λ c. omega arith) loop-holds returns (λ c κs. search needs)
+    (λ c κs. search needs) returns-2 (λ c. omega arith) (λ c. omega arith) (λ c. omega arith) loop-again returns-3)

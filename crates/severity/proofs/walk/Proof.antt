@@ -4,9 +4,10 @@ use mathlib.Core.Path.{ap, _∙_}
 use mathlib.Core.Logic.{⊎-elim}
 use lib.ListN.{length}
 use borrow.Author.Needs.{needs}
+use Rattle.rules.proofs.Answers.{met}
 use Rattle.rules.proofs.Histories.{from-first, from-given}
-use Rattle.severity.specs.Paper.{workPaper, recordPaper, Walking}
-use Rattle.severity.proofs.Loop.{stepped-as, walked-first, walked-none, walked-bad, walked-more, walked-past}
+use Rattle.severity.specs.Paper.{workPaper, recordPaper, steppedPaper, Walking}
+use Rattle.severity.proofs.Loop.{walked-first, walked-none, walked-bad, walked-more, walked-past}
 use Rattle.severity.proofs.Loop.{walked-whole}
 use Rattle.severity.proofs.walk.Statement.{statement}
 use Rattle.severity.proofs.walk.Tie as tie
@@ -20,13 +21,13 @@ abbrev μ-loop : tie.MeasureT-loop
 
 returns-2 : tie.Need-returns-2 Inv-loop μ-loop
 returns-2 c =
-    let q = stepped-as (c .before .answer2 .given .1) (c .before .before .before .step-byte .ensures) in
+    let q = met steppedPaper (c .before .answer2 .given .1) (c .before .before .before .step-byte .ensures) in
     search (needs, walked-bad)
 
 loop-again : tie.Need-loop-again Inv-loop μ-loop
 loop-again c =
     let b = c .before .before in
-    let q = stepped-as (b .answer .given .1) (b .before .before .step-byte .ensures) in
+    let q = met steppedPaper (b .answer .given .1) (b .before .before .step-byte .ensures) in
     let inv = b .before .before .before .before .before .loop .inv in
     let a = from-given _ _ _ _ _ _ (inv .reached) q in
     ⊎-elim

@@ -14,29 +14,8 @@ Inv-loop plan stages i₀ total₀ i total = (i ≤ stages) × (total ≤ 65535 
 abbrev μ-loop : tie.MeasureT-loop
 μ-loop plan stages i₀ total₀ i total = stages - i
 
-cast-stages : tie.Need-cast-stages Inv-loop μ-loop
-cast-stages c = search needs
-
 loop-holds : tie.Need-loop-holds Inv-loop μ-loop
 loop-holds c = (omega arith, omega arith, sized-start _)
-
-mul-wide : tie.Need-mul-wide Inv-loop μ-loop
-mul-wide c = omega arith
-
-element-copy-out-wide : tie.Need-element-copy-out-wide Inv-loop μ-loop
-element-copy-out-wide c = omega arith
-
-wide-requires : tie.Need-wide-requires Inv-loop μ-loop
-wide-requires c κs = search needs
-
-add-total : tie.Need-add-total Inv-loop μ-loop
-add-total c = omega arith
-
-add-i : tie.Need-add-i Inv-loop μ-loop
-add-i c = omega arith
-
-loop-less : tie.Need-loop-less Inv-loop μ-loop
-loop-less c = omega arith
 
 loop-again : tie.Need-loop-again Inv-loop μ-loop
 loop-again c =
@@ -49,16 +28,5 @@ returns c = sized-all _ _ _ (omega arith) (c .before .loop .inv .2)
 pub total-size-spec : {M : Type 1} → statement M
 total-size-spec =
     tie.close
-    (tie.spec
-    Inv-loop
-    μ-loop
-    cast-stages
-    loop-holds
-    mul-wide
-    element-copy-out-wide
-    wide-requires
-    add-total
-    add-i
-    loop-less
-    loop-again
-    returns)
+    (tie.spec Inv-loop μ-loop (λ c. search needs) loop-holds (λ c. omega arith) (λ c. omega arith)
+    (λ c κs. search needs) (λ c. omega arith) (λ c. omega arith) (λ c. omega arith) loop-again returns)

@@ -24,27 +24,6 @@ abbrev μ-loop : tie.MeasureT-loop
 loop-holds : tie.Need-loop-holds Inv-loop μ-loop
 loop-holds c = (omega arith, refl, seven-first _ _ _)
 
-mul-put-number : tie.Need-mul-put-number Inv-loop μ-loop
-mul-put-number c = omega arith
-
-add-put-number : tie.Need-add-put-number Inv-loop μ-loop
-add-put-number c = omega arith
-
-mul-put-number-2 : tie.Need-mul-put-number-2 Inv-loop μ-loop
-mul-put-number-2 c = omega arith
-
-array-read-put-number : tie.Need-array-read-put-number Inv-loop μ-loop
-array-read-put-number c = omega arith
-
-put-number-requires : tie.Need-put-number-requires Inv-loop μ-loop
-put-number-requires c κs = omega arith
-
-add-i : tie.Need-add-i Inv-loop μ-loop
-add-i c = omega arith
-
-loop-less : tie.Need-loop-less Inv-loop μ-loop
-loop-less c = omega arith
-
 loop-again : tie.Need-loop-again Inv-loop μ-loop
 loop-again c =
     let a = c .before .before .before .before .before .before .before .args in
@@ -61,5 +40,5 @@ returns c =
 pub put-seven-spec : {M : Type 1} → statement M
 put-seven-spec =
     tie.close
-    (tie.spec Inv-loop μ-loop loop-holds mul-put-number add-put-number mul-put-number-2 array-read-put-number
-    put-number-requires add-i loop-less loop-again (λ c. search needs) returns)
+    (tie.spec Inv-loop μ-loop loop-holds (λ c. omega arith) (λ c. omega arith) (λ c. omega arith) (λ c. omega arith)
+    (λ c κs. omega arith) (λ c. omega arith) (λ c. omega arith) loop-again (λ c. search needs) returns)
