@@ -14,10 +14,16 @@ enum { PROVED, PLAIN, SIDES };
 struct side {
     uint32_t (*plan)(uint32_t size, uint32_t level, uint32_t column, uint32_t severity, const uint8_t *book,
                      size_t book_len, uint8_t *letter, uint16_t *n, uint16_t *ac);
+    uint32_t (*fractional_plan)(uint32_t size, uint32_t level, uint32_t column, uint32_t severity, const uint8_t *book,
+                                size_t book_len, uint8_t *letter, uint16_t *n, uint16_t *ac, uint8_t *share);
     judge *single, *staged, *sequential;
     uint32_t (*variables)(uint32_t size, uint32_t level, uint32_t column, uint32_t severity, const uint8_t *book,
                           size_t book_len, const uint8_t *readings, size_t readings_len, int32_t limit,
                           uint8_t *accepted, uint16_t *used);
+    uint32_t (*close_fractional)(uint8_t *record, size_t record_len, uint32_t resubmitted, uint32_t size,
+                                 uint32_t level, uint32_t column, const uint8_t *book, size_t book_len,
+                                 const uint8_t *sample, size_t sample_len, uint8_t *accepted, uint16_t *used,
+                                 uint8_t *byte);
     uint32_t (*check_book)(const uint8_t *book, size_t book_len);
     uint64_t (*list)(const uint8_t *history, size_t len, uint8_t *severities, size_t room);
 };

@@ -10,8 +10,10 @@
 #include <string.h>
 
 const struct side sides[SIDES] = {
-    {hm_plan, hm_single, hm_staged, hm_sequential, hm_variables_upper, hm_check_book, hm_list},
-    {ref_plan, ref_single, ref_staged, ref_sequential, ref_variables_upper, ref_check_book, ref_list},
+    {hm_plan, hm_fractional_plan, hm_single, hm_staged, hm_sequential, hm_variables_upper, hm_close_fractional,
+     hm_check_book, hm_list},
+    {ref_plan, ref_fractional_plan, ref_single, ref_staged, ref_sequential, ref_variables_upper, ref_close_fractional,
+     ref_check_book, ref_list},
 };
 
 enum { MOST_ITEMS = 14000, MOST_HISTORY = 1000000, STAGES = 7 };
@@ -27,6 +29,7 @@ struct lot {
 static struct lot lot, lots[LOTS];
 static size_t calls, book_len, sample_len, history_len;
 static uint8_t book[HM_BOOK_BYTES], sample[2 * MOST_ITEMS], history[MOST_HISTORY], listed[MOST_HISTORY];
+static uint8_t supply[HM_RECORD_BYTES];
 
 static void put(uint8_t *bytes, size_t *len, unsigned number) {
     bytes[(*len)++] = (uint8_t)number;
@@ -90,6 +93,19 @@ static uint64_t run_plans(const struct side *side) {
     return digest;
 }
 
+/* Two in 26 of them are on a fraction, or refused for a column over 15. */
+static uint64_t run_fractional_plans(const struct side *side) {
+    uint64_t digest = 0;
+    for (size_t i = 0, at = 0; i < calls; i++, at = at + 1 < LOTS ? at + 1 : 0) {
+        uint8_t letter = 0, share = 0;
+        uint16_t n = 0, ac = 0;
+        uint32_t status = side->fractional_plan(lots[at].size, lots[at].level, lots[at].column, lots[at].severity, book,
+                                                book_len, &letter, &n, &ac, &share);
+        digest += status + ((uint64_t)share << 48) + ((uint64_t)letter << 40) + ((uint64_t)n << 20) + ac;
+    }
+    return digest;
+}
+
 /* ---- samples: none is decided before its last item */
 
 static uint64_t verdict(uint32_t status, uint8_t accepted, uint16_t used) {
@@ -115,6 +131,34 @@ static void prepare_single(size_t size) {
 
 static uint64_t run_single(const struct side *side) {
     return judged(side->single);
+}
+
+/* Under normal R, 0.010 takes 2,000 items and L, 0.10 takes 200, both by 1/3: the one bad item passes after two lots.
+ */
+static void prepare_closed(size_t size) {
+    bool full = size == 2000;
+    begin(full ? (struct lot){500001, HM_LEVEL_III, HM_AQL_0_010, HM_NORMAL}
+               : (struct lot){10000, HM_LEVEL_II, HM_AQL_0_10, HM_NORMAL});
+    no_book();
+    for (size_t i = 0; i < size; i++)
+        put_item(i == size / 2);
+    memcpy(supply, (const uint8_t[HM_RECORD_BYTES])HM_FRESH_RECORD, sizeof supply);
+    supply[HM_RECORD_CLEAN_RUN] = 2;
+    supply[HM_RECORD_CLEAN_LETTER] = full ? HM_LETTER_R : HM_LETTER_L;
+    supply[HM_RECORD_CLEAN_COLUMN] = (uint8_t)lot.column;
+}
+
+/* Each run closes the lot on the same record. */
+static uint64_t run_closed(const struct side *side) {
+    uint8_t record[HM_RECORD_BYTES], accepted = 0, byte = 0;
+    uint16_t used = 0;
+    memcpy(record, supply, sizeof record);
+    uint32_t status = side->close_fractional(record, sizeof record, HM_ORIGINAL, lot.size, lot.level, lot.column, book,
+                                             book_len, sample, sample_len, &accepted, &used, &byte);
+    uint64_t digest = verdict(status, accepted, used) + byte;
+    for (size_t i = 0; i < sizeof record; i++)
+        digest = 31 * digest + record[i];
+    return digest;
 }
 
 /* Seven stages that accept only at the last. */
@@ -247,7 +291,9 @@ static uint64_t run_history(const struct side *side) {
 
 const struct work works[WORKS] = {
     {"plans looked up", "lots", 1000000, 1000, 0, prepare_plans, run_plans},
+    {"plans looked up in the mode of fractions", "lots", 1000000, 1000, 0, prepare_plans, run_fractional_plans},
     {"a single sample", "items", 3150, 3150, 0, prepare_single, run_single},
+    {"a lot closed on a fraction", "items", 2000, 2000, 0, prepare_closed, run_closed},
     {"a staged sample", "items", 14000, 14000, 0, prepare_staged, run_staged},
     {"a sequential sample", "items", 3150, 3150, 0, prepare_sequential, run_sequential},
     {"variables", "readings", 50, 50, 0, prepare_variables, run_variables},

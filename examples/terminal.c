@@ -1,6 +1,7 @@
 /*
  * A bench's day through the C terminal, with a small typed book: the plans of a lot, a lot of each kind sentenced, then
- * lots closed on the record of their supply, with a history that is kept and listed.
+ * lots closed on the record of their supply, with a history that is kept and listed; last, small lots of another supply
+ * in the mode of fractions.
  * Link with libterminal.a. What it prints stands in terminal.out.
  */
 #include "../include/hipomoake.h"
@@ -212,6 +213,61 @@ static void list_history(void) {
     printf("\n");
 }
 
+/* ---- a supply of small lots, in the mode of fractions: 12 items, level II, AQL 6.5. Table 1 gives letter B */
+
+enum { SMALL_SIZE = 12, SMALL_COLUMN = HM_AQL_6_5 };
+
+static uint8_t small_supply[HM_RECORD_BYTES] = HM_FRESH_RECORD;
+
+/* The items to draw; a fraction is printed as such. */
+static size_t print_fractional_plan(void) {
+    uint8_t letter, share;
+    uint16_t n, ac;
+    uint32_t status = hm_fractional_plan(SMALL_SIZE, LEVEL, SMALL_COLUMN, small_supply[HM_RECORD_SEVERITY], book,
+                                         sizeof book, &letter, &n, &ac, &share);
+    if (!is_answered("small lots", status))
+        return 0;
+    printf("%-16s letter %c, n %u, Ac ", "small lots", HM_LETTERS[letter], n);
+    if (share == HM_WHOLE_AC)
+        printf("%u\n", ac);
+    else
+        printf("1/%u\n", share);
+    return n;
+}
+
+/* What closing would say, with the record as it is. */
+static void judge_small(size_t n, size_t bad) {
+    uint8_t accepted = 0;
+    uint16_t used = 0;
+    size_t len = draw_sample(n, bad);
+    uint32_t status = hm_fractional(small_supply, sizeof small_supply, SMALL_SIZE, LEVEL, SMALL_COLUMN, book,
+                                    sizeof book, sample, len, &accepted, &used);
+    print_verdict("small, judged", status, accepted, used);
+}
+
+static void close_small(size_t n, size_t bad) {
+    uint8_t accepted = 0, byte = 0;
+    uint16_t used = 0;
+    size_t len = draw_sample(n, bad);
+    uint32_t status = hm_close_fractional(small_supply, sizeof small_supply, HM_ORIGINAL, SMALL_SIZE, LEVEL,
+                                          SMALL_COLUMN, book, sizeof book, sample, len, &accepted, &used, &byte);
+    if (is_answered("small, closed", status))
+        printf("%-16s %s with %zu bad of %u: byte %u, score %u, clean run %u\n", "small, closed",
+               accepted ? "accepted" : "not accepted", bad, used, byte, small_supply[HM_RECORD_SCORE],
+               small_supply[HM_RECORD_CLEAN_RUN]);
+}
+
+/* Two clean lots let one item of the third pass; the fourth has none before it. */
+static void close_small_lots(void) {
+    size_t n = print_fractional_plan();
+    judge_small(n, 1);
+    close_small(n, 0);
+    close_small(n, 0);
+    judge_small(n, 1);
+    close_small(n, 1);
+    close_small(n, 1);
+}
+
 int main(void) {
     if (is_answered("book", hm_check_book(book, sizeof book)))
         printf("%-16s sound, %zu bytes\n", "book", sizeof book);
@@ -227,5 +283,6 @@ int main(void) {
     list_history();
     history[history_len++] = HM_CORRECTIVE; /* a corrective order, though inspection is not stopped */
     list_history();
+    close_small_lots();
     return 0;
 }

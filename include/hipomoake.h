@@ -1,6 +1,6 @@
 /*
- * Hipomoake for C: acceptance sampling by attributes (single, staged, sequential) and by variables (s method), with the
- * severity record of a supply and the severities of its history.
+ * Hipomoake for C: acceptance sampling by attributes (single, with fractional acceptance numbers or without, staged,
+ * sequential) and by variables (s method), with the severity record of a supply and the severities of its history.
  *
  * THE ARCHIVE. `rt staticlib terminal` writes libterminal.a, for Linux on x86-64. On an Arm machine, link with a cross
  * compiler (x86_64-linux-gnu-gcc -static) and run the program under the kit's emulator, qemu-x86_64.
@@ -25,7 +25,7 @@
  *   size      items in the lot, 2 or more
  *   level     inspection level, HM_LEVEL_S1 to HM_LEVEL_III
  *   column    AQL, HM_AQL_0_010 to HM_AQL_1000; to HM_AQL_10 nonconforming items are counted, above nonconformities
- *   severity  HM_NORMAL, HM_TIGHTENED, HM_REDUCED or HM_STOPPED; a function that closes a lot takes it from the record
+ *   severity  HM_NORMAL, HM_TIGHTENED, HM_REDUCED or HM_STOPPED; a function that takes a record takes it from there
  *   book      the plan book, checked whole at every call and every severity; a bench without one lends HM_NO_BOOK
  *
  * THE SAMPLE, in functions on attributes: the items in the order inspected, one number each; to HM_AQL_10 each is 0
@@ -49,15 +49,36 @@
  * does not rise, at the entry's first number; bytes after section 4, at the first; a number missing or half there, at
  * the length.
  *
- * THE RECORD: HM_RECORD_BYTES bytes, one record for each supply, which starts as HM_FRESH_RECORD. In order: severity;
- * score (0 to 30); run (accepted in a row, 0 to 4) and count (not accepted, 0 to 4) of a tightened stay; window (the
- * last five lots of a normal stay as bits, the newest in bit 0, 1 for one not accepted, at most one such); steady;
- * permission (each 0 or 1). Score and window are 0 outside normal, run and count outside tightened. Keep it as it is
- * between calls; only the functions below change it.
+ * THE RECORD: HM_RECORD_BYTES bytes, one record for each supply, which starts as HM_FRESH_RECORD. In order:
+ * severity; score (0 to 30); run (accepted in a row, 0 to 4) and count (not accepted, 0 to 4) of a tightened stay;
+ * window (the last five lots of a normal stay as bits, the newest in bit 0, 1 for one not accepted, at most one such);
+ * steady; permission (each 0 or 1); clean run (0 to 2), and the letter and the column of the fraction it stands on.
+ * Score and window are 0 outside normal, run and count outside tightened, letter and column beside a clean run of 0;
+ * beside 1 or 2 they are a fraction at the record's severity, to HM_LETTER_R and HM_AQL_10. Keep it as it is between
+ * calls; only the functions below change it. A record kept from before there were fractions has 7 bytes: three zero
+ * bytes after them bring it up.
+ *
+ * FRACTIONS: a mode of single sampling, which the caller chooses lot by lot: hm_fractional_plan, hm_fractional and
+ * hm_close_fractional. With s the code of the letter of Table 1 (hm_letter) plus the column, a lot is on a fraction at
+ *   normal      s 15: one third    s 16: one half
+ *   tightened   s 16: one third    s 17: one half
+ * where the tables have arrows between Ac 0 and Ac 1. Its plan has that letter and the letter's own size, cut to the
+ * lot. Above HM_AQL_10 a fraction is refused by HM_NO_PLAN. Any other lot is on the plan of hm_plan in this mode too.
+ *   A sample with no nonconforming item is clean, and accepts. One with two or more is not accepted. One with one is
+ * accepted on one half after a clean run of 1 or 2, on one third after 2, if the run stands on the lot's own letter and
+ * column; else not. For the score a fraction counts as Ac 0.
+ *   The clean run counts original lots, newest first and at most 2, that were closed by hm_close_fractional with clean
+ * samples on one fraction since the severity last changed. So a clean sample on a fraction adds 1 to a run on that
+ * fraction, and makes it 1 where there is none or it stands on another: a lot of another letter or column starts the
+ * run again, one of another size or level under the same letter goes on with it. It is cleared, with its letter and
+ * column, by a sample that is not clean, also where it is accepted; by any other original lot: on a whole Ac, closed by
+ * hm_close_single or hm_close_staged (also a lot that would be on the same fraction), or entered by hm_next as a byte;
+ * and by a change of severity, for the lot that changes it as well. Orders that leave the severity, resubmitted lots,
+ * and sequential and variables lots leave the run as it is; a resubmitted lot is judged by the run as it stands.
  *
  * THE HISTORY of a supply: one byte for each lot and each order, HM_ACCEPTED_ADD_3 to HM_CORRECTIVE, from a fresh
  * record on. The functions that close a lot tell its byte; the byte of hm_next is its event. A bench that keeps the
- * bytes of all that was answered can have its severities again from hm_list.
+ * bytes of all that was answered can have its severities again from hm_list. Bytes do not tell the clean run.
  *
  * EXAMPLE. Close an original lot of 1,000 at level II, AQL 1.0, on the record of its supply:
  *
@@ -95,7 +116,8 @@ enum {
     HM_BAD_LEVEL    = 3,  /* a level over HM_LEVEL_III */
     HM_BAD_COLUMN   = 4,  /* a column over HM_AQL_1000 */
     HM_IS_STOPPED   = 5,  /* any lot, resubmitted ones too, while inspection is stopped */
-    HM_NO_PLAN      = 6,  /* no book entry under the lot's key, or a staged total, nt or variables n above the size */
+    HM_NO_PLAN      = 6,  /* no book entry under the lot's key; a staged total, nt or variables n above the size; a
+                             fraction at a column over HM_AQL_10 */
     HM_BAD_LENGTH   = 7,  /* a sample of the wrong length, half an item included; for hm_screen not 1 to 50 readings */
     HM_BAD_ITEM     = 8,  /* an item over 1 where items are 0 or 1 */
     HM_BAD_READING  = 9,  /* a reading or a limit not in -1,000 to 1,000 */
@@ -114,7 +136,7 @@ enum {
     HM_AQL_15, HM_AQL_25, HM_AQL_40, HM_AQL_65, HM_AQL_100, HM_AQL_150, HM_AQL_250, HM_AQL_400, HM_AQL_650, HM_AQL_1000
 };
 
-/* Severities: what a record's first byte holds, what hm_list writes, and what the functions that only judge take. */
+/* Severities: what a record's first byte holds, what hm_list writes, and what the functions without a record take. */
 enum { HM_NORMAL, HM_TIGHTENED, HM_REDUCED, HM_STOPPED };
 
 /* Code letters, 0 to 16; I and O are no letters. HM_LETTERS[letter] is the letter itself. */
@@ -141,11 +163,17 @@ enum {
 /* What the functions that close a lot take as resubmitted: this, or HM_RESUBMITTED. */
 enum { HM_ORIGINAL = 0 };
 
+/* What hm_fractional_plan tells as share: a whole Ac, or a fraction. */
+enum { HM_WHOLE_AC = 0, HM_ONE_HALF = 2, HM_ONE_THIRD = 3 };
+
 /* A record's length, the places in it that a bench shows, and the record of a new supply, for its initializer. */
-#define HM_RECORD_BYTES 7
+#define HM_RECORD_BYTES 10
 #define HM_RECORD_SEVERITY 0
 #define HM_RECORD_SCORE 1
-#define HM_FRESH_RECORD { 0, 0, 0, 0, 0, 0, 0 }
+#define HM_RECORD_CLEAN_RUN 7
+#define HM_RECORD_CLEAN_LETTER 8
+#define HM_RECORD_CLEAN_COLUMN 9
+#define HM_FRESH_RECORD { 0, 0, 0, 0, 0, 0, 0, 0, 0, 0 }
 
 /* The longest book, the Ac that means no acceptance at its stage, and a book with no entries, for its initializer. */
 #define HM_BOOK_BYTES 32768
@@ -185,6 +213,16 @@ uint32_t hm_plan(uint32_t size, uint32_t level, uint32_t column, uint32_t severi
                  size_t book_len, uint8_t *letter, uint16_t *n, uint16_t *ac);
 
 /*
+ * The single sampling plan for a lot in the mode of fractions.
+ *   letter, n, ac  as of hm_plan where share is HM_WHOLE_AC
+ *   share          HM_WHOLE_AC, which is 0; else HM_ONE_HALF, 2, or HM_ONE_THIRD, 3: then letter is that of Table 1, n
+ *                  its size, or the whole lot where that is not more, and ac 0
+ * Refuses 1 2 3 4 5 6 12; 6 also for a fraction at a column over 15.
+ */
+uint32_t hm_fractional_plan(uint32_t size, uint32_t level, uint32_t column, uint32_t severity, const uint8_t *book,
+                            size_t book_len, uint8_t *letter, uint16_t *n, uint16_t *ac, uint8_t *share);
+
+/*
  * The staged plan for a lot, from the book.
  *   letter  that of Table 1
  *   stages  2 to 7
@@ -218,7 +256,7 @@ uint32_t hm_sequential_plan(uint32_t size, uint32_t level, uint32_t column, uint
 uint32_t hm_variables_plan(uint32_t size, uint32_t level, uint32_t column, uint32_t severity, const uint8_t *book,
                            size_t book_len, uint8_t *letter, uint16_t *n, uint16_t *k);
 
-/* ---- verdicts that touch no record */
+/* ---- verdicts that move no record */
 
 /*
  * Judge a sample by the lot's single plan, its staged plan, its sequential plan.
@@ -248,16 +286,26 @@ uint32_t hm_variables_lower(uint32_t size, uint32_t level, uint32_t column, uint
                             size_t book_len, const uint8_t *readings, size_t readings_len, int32_t limit,
                             uint8_t *accepted, uint16_t *used);
 
+/*
+ * Judge a sample in the mode of fractions, at the severity and by the clean run of a record, which stays as it is.
+ *   accepted  1 or 0
+ *   used      items used: all of the sample
+ * Refuses 1 2 3 4 5 6 7 8 12; 6 also for a fraction at a column over 15.
+ */
+uint32_t hm_fractional(const uint8_t *record, size_t record_len, uint32_t size, uint32_t level, uint32_t column,
+                       const uint8_t *book, size_t book_len, const uint8_t *sample, size_t sample_len,
+                       uint8_t *accepted, uint16_t *used);
+
 /* ---- the record and the history of a supply */
 
 /*
- * Judge a sample at the record's severity, by the lot's single plan or its staged plan, and move the record by the
- * verdict. A resubmitted lot is judged alike and leaves the record as it is.
+ * Judge a sample at the record's severity, by the lot's single plan, its staged plan or its single plan in the mode of
+ * fractions, and move the record by the verdict. A resubmitted lot is judged alike and leaves the record as it is.
  *   resubmitted  HM_ORIGINAL, which is 0, for an original lot; HM_RESUBMITTED, or anything else, for a resubmitted one
  *   accepted     1 or 0
  *   used         items used: all of the sample
  *   byte         the history byte that the lot stands for, HM_ACCEPTED_ADD_3 to HM_RESUBMITTED
- * Each refuses 1 2 3 4 5 6 7 8 12.
+ * Each refuses 1 2 3 4 5 6 7 8 12; hm_close_fractional gives 6 also for a fraction at a column over 15.
  */
 uint32_t hm_close_single(uint8_t *record, size_t record_len, uint32_t resubmitted, uint32_t size, uint32_t level,
                          uint32_t column, const uint8_t *book, size_t book_len, const uint8_t *sample,
@@ -265,10 +313,14 @@ uint32_t hm_close_single(uint8_t *record, size_t record_len, uint32_t resubmitte
 uint32_t hm_close_staged(uint8_t *record, size_t record_len, uint32_t resubmitted, uint32_t size, uint32_t level,
                          uint32_t column, const uint8_t *book, size_t book_len, const uint8_t *sample,
                          size_t sample_len, uint8_t *accepted, uint16_t *used, uint8_t *byte);
+uint32_t hm_close_fractional(uint8_t *record, size_t record_len, uint32_t resubmitted, uint32_t size, uint32_t level,
+                             uint32_t column, const uint8_t *book, size_t book_len, const uint8_t *sample,
+                             size_t sample_len, uint8_t *accepted, uint16_t *used, uint8_t *byte);
 
 /*
- * Move the record by one event, HM_ACCEPTED_ADD_3 to HM_CORRECTIVE: an order, or an attributes lot judged elsewhere.
- * Never a lot judged on a sequential or variables plan: those enter neither the record nor the history.
+ * Move the record by one event, HM_ACCEPTED_ADD_3 to HM_CORRECTIVE: an order, or an attributes lot judged elsewhere,
+ * which clears the clean run unless it is resubmitted. Never a lot judged on a sequential or variables plan: those
+ * enter neither the record nor the history.
  * Refuses 1 5 10.
  */
 uint32_t hm_next(uint8_t *record, size_t record_len, uint32_t event);

@@ -11,7 +11,7 @@
 #include <string.h>
 
 enum { STEADY = 5, NOT_STEADY, PERMISSION, WITHDRAWN, CORRECTIVE };
-enum { RECORD_BYTES = 7, SEVERITY = 0, SCORE = 1, MOST_FIELDS = 5 };
+enum { RECORD_BYTES = 10, SEVERITY = 0, SCORE = 1, MOST_FIELDS = 5 };
 
 static uint8_t record[RECORD_BYTES];
 

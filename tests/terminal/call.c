@@ -10,6 +10,8 @@
 
 enum { NUMBERS = 13, BYTES = 5, GUARD = 16, MOST_REPORTS = 5 };
 
+typedef uint32_t fractional_function(const uint8_t *, size_t, uint32_t, uint32_t, uint32_t, const uint8_t *, size_t,
+                                     const uint8_t *, size_t, uint8_t *, uint16_t *);
 typedef uint32_t judge_function(uint32_t, uint32_t, uint32_t, uint32_t, const uint8_t *, size_t, const uint8_t *,
                                 size_t, uint8_t *, uint16_t *);
 typedef uint32_t variables_function(uint32_t, uint32_t, uint32_t, uint32_t, const uint8_t *, size_t, const uint8_t *,
@@ -21,6 +23,8 @@ struct library {
     uint32_t (*letter)(uint32_t, uint32_t, uint8_t *);
     uint32_t (*plan)(uint32_t, uint32_t, uint32_t, uint32_t, const uint8_t *, size_t, uint8_t *, uint16_t *,
                      uint16_t *);
+    uint32_t (*fractional_plan)(uint32_t, uint32_t, uint32_t, uint32_t, const uint8_t *, size_t, uint8_t *, uint16_t *,
+                                uint16_t *, uint8_t *);
     uint32_t (*staged_plan)(uint32_t, uint32_t, uint32_t, uint32_t, const uint8_t *, size_t, uint8_t *, uint8_t *,
                             uint8_t *, size_t);
     uint32_t (*sequential_plan)(uint32_t, uint32_t, uint32_t, uint32_t, const uint8_t *, size_t, uint8_t *, uint16_t *,
@@ -29,28 +33,29 @@ struct library {
                                uint16_t *);
     judge_function *single, *staged, *sequential;
     variables_function *upper, *lower;
-    close_function *close_single, *close_staged;
+    fractional_function *fractional;
+    close_function *close_single, *close_staged, *close_fractional;
     uint32_t (*next)(uint8_t *, size_t, uint32_t);
     uint64_t (*list)(const uint8_t *, size_t, uint8_t *, size_t);
     uint32_t (*check_book)(const uint8_t *, size_t);
     uint32_t (*screen)(const uint8_t *, size_t, double *, double *, uint8_t *);
 };
 
-static const struct library proved = {
-    hm_letter, hm_plan,       hm_staged_plan,     hm_sequential_plan, hm_variables_plan, hm_single,
-    hm_staged, hm_sequential, hm_variables_upper, hm_variables_lower, hm_close_single,   hm_close_staged,
-    hm_next,   hm_list,       hm_check_book,      hm_screen,
-};
+/* The functions of a library by what their names begin with, in the order of the struct. */
+#define LIBRARY(of)                                                                                                    \
+    {                                                                                                                  \
+        of##_letter, of##_plan, of##_fractional_plan, of##_staged_plan, of##_sequential_plan, of##_variables_plan,     \
+            of##_single, of##_staged, of##_sequential, of##_variables_upper, of##_variables_lower, of##_fractional,    \
+            of##_close_single, of##_close_staged, of##_close_fractional, of##_next, of##_list, of##_check_book,        \
+            of##_screen                                                                                                \
+    }
 
-static const struct library reference = {
-    ref_letter, ref_plan,       ref_staged_plan,     ref_sequential_plan, ref_variables_plan, ref_single,
-    ref_staged, ref_sequential, ref_variables_upper, ref_variables_lower, ref_close_single,   ref_close_staged,
-    ref_next,   ref_list,       ref_check_book,      ref_screen,
-};
+static const struct library proved = LIBRARY(hm), reference = LIBRARY(ref);
 
 #define BIT(number) (1u << (number))
 #define LOT_NUMBERS (BIT(1) | BIT(2) | BIT(3) | BIT(4) | BIT(5) | BIT(6) | BIT(12))
 #define ITEM_NUMBERS (LOT_NUMBERS | BIT(7) | BIT(8))
+#define SINGLE_BYTES (BIT(0) | BIT(1) | BIT(2) | BIT(3) | BIT(4))
 
 /* The numbers that each function can give beside 0, whether it gives verdicts, and the history bytes that it tells. */
 static const struct {
@@ -61,6 +66,7 @@ static const struct {
 } about[FUNCTIONS] = {
     [LETTER] = {"hm_letter", BIT(2) | BIT(3), false, 0},
     [PLAN] = {"hm_plan", LOT_NUMBERS, false, 0},
+    [FRACTIONAL_PLAN] = {"hm_fractional_plan", LOT_NUMBERS, false, 0},
     [STAGED_PLAN] = {"hm_staged_plan", LOT_NUMBERS | BIT(11), false, 0},
     [SEQUENTIAL_PLAN] = {"hm_sequential_plan", LOT_NUMBERS, false, 0},
     [VARIABLES_PLAN] = {"hm_variables_plan", LOT_NUMBERS, false, 0},
@@ -69,8 +75,10 @@ static const struct {
     [SEQUENTIAL] = {"hm_sequential", ITEM_NUMBERS, true, 0},
     [UPPER] = {"hm_variables_upper", LOT_NUMBERS | BIT(7) | BIT(9), true, 0},
     [LOWER] = {"hm_variables_lower", LOT_NUMBERS | BIT(7) | BIT(9), true, 0},
-    [CLOSE_SINGLE] = {"hm_close_single", ITEM_NUMBERS, true, BIT(0) | BIT(1) | BIT(2) | BIT(3) | BIT(4)},
+    [FRACTIONAL] = {"hm_fractional", ITEM_NUMBERS, true, 0},
+    [CLOSE_SINGLE] = {"hm_close_single", ITEM_NUMBERS, true, SINGLE_BYTES},
     [CLOSE_STAGED] = {"hm_close_staged", ITEM_NUMBERS, true, BIT(0) | BIT(2) | BIT(3) | BIT(4)},
+    [CLOSE_FRACTIONAL] = {"hm_close_fractional", ITEM_NUMBERS, true, SINGLE_BYTES},
     [NEXT] = {"hm_next", BIT(1) | BIT(5) | BIT(10), false, 0},
     [LIST] = {"hm_list", BIT(1) | BIT(5) | BIT(10) | BIT(11), false, 0},
     [CHECK_BOOK] = {"hm_check_book", BIT(12), false, 0},
@@ -79,6 +87,10 @@ static const struct {
 
 static struct { unsigned long calls, numbers[NUMBERS], verdicts[2], bytes[BYTES]; } tally[FUNCTIONS];
 static unsigned long differences;
+
+/* Lots judged on a fraction, by its share, the clean lots before it and its total, held at 2. */
+enum { SHARES = 4, RUNS = 3, TOTALS = 3 };
+static unsigned long fractions[SHARES][RUNS][TOTALS];
 
 /* ---- lent memory: between random guard bytes, at even and odd addresses, with a copy of what it held */
 
@@ -136,28 +148,43 @@ static uint32_t run_variables(variables_function *judge, const struct call *c, c
                  &a->accepted, &a->used);
 }
 
+static uint32_t run_fractional(fractional_function *judge, const struct call *c, const uint8_t *book,
+                               const uint8_t *sample, struct answer *a) {
+    return judge(a->record, c->record_len, c->size, c->level, c->column, book, c->book_len, sample, c->sample_len,
+                 &a->accepted, &a->used);
+}
+
 static uint32_t run_close(close_function *close, const struct call *c, const uint8_t *book, const uint8_t *sample,
                           struct answer *a) {
     return close(a->record, c->record_len, c->resubmitted, c->size, c->level, c->column, book, c->book_len, sample,
                  c->sample_len, &a->accepted, &a->used, &a->byte);
 }
 
-static uint64_t run(const struct library *of, const struct call *c, const uint8_t *book, const uint8_t *sample,
-                    uint8_t *out, struct answer *a) {
+static uint32_t run_plan(const struct library *of, const struct call *c, const uint8_t *book, uint8_t *out,
+                         struct answer *a) {
     switch (c->function) {
     case LETTER:
         return of->letter(c->size, c->level, &a->letter);
     case PLAN:
         return of->plan(c->size, c->level, c->column, c->severity, book, c->book_len, &a->letter, &a->n, &a->ac);
+    case FRACTIONAL_PLAN:
+        return of->fractional_plan(c->size, c->level, c->column, c->severity, book, c->book_len, &a->letter, &a->n,
+                                   &a->ac, &a->share);
     case STAGED_PLAN:
         return of->staged_plan(c->size, c->level, c->column, c->severity, book, c->book_len, &a->letter, &a->stages,
                                out, c->out_len);
     case SEQUENTIAL_PLAN:
         return of->sequential_plan(c->size, c->level, c->column, c->severity, book, c->book_len, &a->letter, &a->ha,
                                    &a->hr, &a->g, &a->nt, &a->at);
-    case VARIABLES_PLAN:
+    default:
         return of->variables_plan(c->size, c->level, c->column, c->severity, book, c->book_len, &a->letter, &a->n,
                                   &a->k);
+    }
+}
+
+static uint64_t run(const struct library *of, const struct call *c, const uint8_t *book, const uint8_t *sample,
+                    uint8_t *out, struct answer *a) {
+    switch (c->function) {
     case SINGLE:
         return run_judge(of->single, c, book, sample, a);
     case STAGED:
@@ -168,19 +195,54 @@ static uint64_t run(const struct library *of, const struct call *c, const uint8_
         return run_variables(of->upper, c, book, sample, a);
     case LOWER:
         return run_variables(of->lower, c, book, sample, a);
+    case FRACTIONAL:
+        return run_fractional(of->fractional, c, book, sample, a);
     case CLOSE_SINGLE:
         return run_close(of->close_single, c, book, sample, a);
     case CLOSE_STAGED:
         return run_close(of->close_staged, c, book, sample, a);
+    case CLOSE_FRACTIONAL:
+        return run_close(of->close_fractional, c, book, sample, a);
     case NEXT:
         return of->next(a->record, c->record_len, c->event);
     case LIST:
         return of->list(sample, c->sample_len, out, c->out_len);
     case CHECK_BOOK:
         return of->check_book(book, c->book_len);
-    default:
+    case SCREEN:
         return of->screen(sample, c->sample_len, &a->mean, &a->variance, &a->both);
+    default:
+        return run_plan(of, c, book, out, a);
     }
+}
+
+/* ---- what was counted */
+
+bool takes_record(enum function f) {
+    return f == FRACTIONAL || f == CLOSE_SINGLE || f == CLOSE_STAGED || f == CLOSE_FRACTIONAL;
+}
+
+unsigned sample_total(const struct call *c) {
+    unsigned total = 0;
+    for (size_t i = 0; i + 1 < c->sample_len; i += 2)
+        total += c->sample[i] | (unsigned)c->sample[i + 1] << 8;
+    return total;
+}
+
+/* The verdict on a fraction is held to T-01's own sentence as well. */
+static void count_fraction(const struct call *c, const struct answer *a) {
+    uint8_t letter, share;
+    uint16_t n, ac;
+    unsigned total = sample_total(c), clean = 0;
+    uint32_t status =
+        ref_fractional_plan(c->size, c->level, c->column, c->record[0], c->book, c->book_len, &letter, &n, &ac, &share);
+    if (status != 0 || share == 0)
+        return;
+    if (c->record[CLEAN_LETTER] == letter && c->record[CLEAN_COLUMN] == c->column)
+        clean = c->record[CLEAN] % RUNS;
+    fractions[share][clean][total < TOTALS ? total : TOTALS - 1]++;
+    if (a->accepted != (total == 0 || (total == 1 && (share == 2 ? clean >= 1 : clean == 2))))
+        report("one nonconforming item needs one clean lot under 1/2, two under 1/3", c);
 }
 
 static void count(const struct call *c, uint64_t status, const struct answer *a) {
@@ -194,6 +256,8 @@ static void count(const struct call *c, uint64_t status, const struct answer *a)
         return;
     if (about[c->function].judges)
         tally[c->function].verdicts[verdict]++;
+    if (c->function == FRACTIONAL || c->function == CLOSE_FRACTIONAL)
+        count_fraction(c, a);
     if (about[c->function].bytes != 0 && (byte >= BYTES || (about[c->function].bytes & BIT(byte)) == 0))
         report("a history byte that this function cannot tell", c);
     else if (about[c->function].bytes != 0)
@@ -210,13 +274,15 @@ static void print_bytes(const char *name, const uint8_t *bytes, size_t len) {
 }
 
 static void print_side(const char *side, uint64_t status, const struct answer *a, const struct lent *out) {
-    const uint8_t *r = a->record;
-    printf("%s: status %u at %llu; letter %u n %u Ac %u; accepted %u used %u byte %u; ", side,
+    printf("%s: status %u at %llu; letter %u n %u Ac %u share %u; accepted %u used %u byte %u; ", side,
            (unsigned)HM_LIST_NUMBER(status), (unsigned long long)HM_LIST_PLACE(status), a->letter, a->n, a->ac,
-           a->accepted, a->used, a->byte);
+           a->share, a->accepted, a->used, a->byte);
     printf("stages %u; hA %u hR %u g %u nt %u At %u; k %u; mean %g variance %g both %u; ", a->stages, a->ha, a->hr,
            a->g, a->nt, a->at, a->k, a->mean, a->variance, a->both);
-    printf("record %u %u %u %u %u %u %u\n", r[0], r[1], r[2], r[3], r[4], r[5], r[6]);
+    printf("record");
+    for (unsigned i = 0; i < RECORD; i++)
+        printf(" %u", a->record[i]);
+    printf("\n");
     print_bytes("row or severities", out->room + out->start, out->len);
 }
 
@@ -294,7 +360,7 @@ static bool print_counts(unsigned expected, const unsigned long *counted, unsign
 
 static bool summary_of(enum function f) {
     bool ok = tally[f].numbers[0] != 0;
-    printf("%-18s %8lu calls, %7lu answered", about[f].name, tally[f].calls, tally[f].numbers[0]);
+    printf("%-19s %8lu calls, %7lu answered", about[f].name, tally[f].calls, tally[f].numbers[0]);
     if (about[f].judges) {
         printf(" (%lu accepted, %lu not)", tally[f].verdicts[1], tally[f].verdicts[0]);
         ok = ok && tally[f].verdicts[0] != 0 && tally[f].verdicts[1] != 0;
@@ -309,8 +375,23 @@ static bool summary_of(enum function f) {
     return ok;
 }
 
-bool summary(void) {
+static bool summary_of_fractions(void) {
     bool ok = true;
+    printf("on a fraction, by the total, 0, 1 or more:");
+    for (unsigned share = 2; share < SHARES; share++)
+        for (unsigned run = 0; run < RUNS; run++) {
+            printf("%s 1/%u after %u clean", share + run > 2 ? ";" : "", share, run);
+            for (unsigned total = 0; total < TOTALS; total++) {
+                printf(" %lu", fractions[share][run][total]);
+                ok = ok && fractions[share][run][total] != 0;
+            }
+        }
+    printf("%s\n", ok ? "" : "  SOMETHING NEVER OCCURRED");
+    return ok;
+}
+
+bool summary(void) {
+    bool ok = summary_of_fractions();
     unsigned long calls = 0;
     for (int f = 0; f < FUNCTIONS; f++) {
         ok = summary_of((enum function)f) && ok;

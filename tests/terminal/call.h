@@ -9,6 +9,7 @@
 enum function {
     LETTER,
     PLAN,
+    FRACTIONAL_PLAN,
     STAGED_PLAN,
     SEQUENTIAL_PLAN,
     VARIABLES_PLAN,
@@ -17,8 +18,10 @@ enum function {
     SEQUENTIAL,
     UPPER,
     LOWER,
+    FRACTIONAL,
     CLOSE_SINGLE,
     CLOSE_STAGED,
+    CLOSE_FRACTIONAL,
     NEXT,
     LIST,
     CHECK_BOOK,
@@ -26,7 +29,10 @@ enum function {
     FUNCTIONS
 };
 
-enum { BOOK_ROOM = 40000, SAMPLE_ROOM = 40000, RECORD_ROOM = 9, RECORD = 7, ROW = 42 };
+enum { BOOK_ROOM = 40000, SAMPLE_ROOM = 40000, RECORD_ROOM = 12, RECORD = 10, ROW = 42 };
+
+/* The record's clean run, the letter and the column of its plan; and its bytes before them, that a history tells. */
+enum { CLEAN = 7, CLEAN_LETTER, CLEAN_COLUMN, TOLD = 7 };
 
 /*
  * Everything that a function could be passed; each takes what it has a parameter for. Readings and histories are lent
@@ -51,7 +57,7 @@ struct answer {
     uint16_t n, guard_3[3], ac, guard_4[3], used, guard_5[3], ha, guard_6[3], hr, guard_7[3], g, guard_8[3];
     uint16_t nt, guard_9[3], at, guard_10[3], k, guard_11[3];
     uint8_t letter, guard_12[7], stages, guard_13[7], accepted, guard_14[7], both, guard_15[7], byte, guard_16[15];
-    uint8_t record[RECORD_ROOM], guard_17[15];
+    uint8_t share, guard_17[7], record[RECORD_ROOM], guard_18[20];
 };
 
 /*
@@ -60,6 +66,12 @@ struct answer {
  */
 uint64_t run_both(const struct call *call, struct answer *answer);
 const uint8_t *last_out(void);
+
+/* Whether the function takes a record and the lot's severity from it. */
+bool takes_record(enum function function);
+
+/* The total of the call's sample. */
+unsigned sample_total(const struct call *call);
 
 /* Notes a difference that run_both cannot see, and prints the first ones. */
 void report(const char *what, const struct call *call);

@@ -10,6 +10,12 @@ void published_cases(void);
 /* Every letter and plan of the tables, every row of stages, every record by every event, and the longest books. */
 void exhaustive_cases(void);
 
+/* The worked cases of T-01, and annex A of ISO 2859-1 in the mode of fractions. */
+void fraction_cases(void);
+
+/* Every fraction by every run and total, every clean run in a record by every event, every short run of mixed calls. */
+void every_fraction(void);
+
 /* Every mixture of what a lot can be refused for, in each function that takes one. */
 void refusal_cases(void);
 

@@ -1,6 +1,7 @@
 /*
- * Compares the proved library (libterminal.a, hm_ functions) with an independent reading of document 01 (reference.c).
- * Usage: compare [SEED [CASES]]. Its status is 0 only where nothing differed and everything that can occur did.
+ * Compares the proved library (libterminal.a, hm_ functions) with an independent reading of the documents
+ * (reference.c). Usage: compare [SEED [CASES]]. Its status is 0 only where nothing differed and everything that can
+ * occur did.
  */
 #include "cases.h"
 #include "draw.h"
@@ -24,6 +25,8 @@ int main(int argc, char **argv) {
     bool ok = long_supplies(SUPPLIES, SUPPLY_EVENTS);
     published_cases();
     exhaustive_cases();
+    fraction_cases();
+    every_fraction();
     refusal_cases();
     history_cases();
     ok = summary() && ok;

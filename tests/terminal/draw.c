@@ -6,7 +6,7 @@
 
 #include <string.h>
 
-enum { MOST_ITEM_COLUMN = 15, STOPPED = 3 };
+enum { MOST_ITEM_COLUMN = 15, MOST_COLUMN = 25, LETTER_R = 15, TIGHTENED = 1, STOPPED = 3 };
 
 /* What a drawn sample is to be. */
 enum mood { ANY, GOOD, BAD };
@@ -42,6 +42,18 @@ static uint32_t draw_size(void) {
     return one_in(4) ? between(2, 500) : between(2, 60);
 }
 
+static bool in_mode(enum function f) {
+    return f == FRACTIONAL_PLAN || f == FRACTIONAL || f == CLOSE_FRACTIONAL;
+}
+
+/* A column at which the lot's letter has a fraction at some severity, or one beside those. */
+static void aim_at_fraction(struct call *c) {
+    uint8_t letter;
+    unsigned s = between(14, 18);
+    if (ref_letter(c->size, c->level, &letter) == 0 && s >= letter && s - letter <= MOST_COLUMN)
+        c->column = s - letter;
+}
+
 static void draw_lot(struct call *c) {
     bool low_columns = c->function == SEQUENTIAL || c->function == UPPER || c->function == LOWER ||
                        c->function == SEQUENTIAL_PLAN || c->function == VARIABLES_PLAN;
@@ -49,6 +61,10 @@ static void draw_lot(struct call *c) {
     c->level = one_in(60) ? any_number() : below(7);
     c->column = one_in(60) ? any_number() : low_columns && !one_in(20) ? below(16) : below(26);
     c->severity = one_in(60) ? any_number() : one_in(40) ? STOPPED : below(3);
+    if (in_mode(c->function) ? !one_in(6) : takes_record(c->function) && one_in(4))
+        aim_at_fraction(c);
+    if (in_mode(c->function) && one_in(2))
+        c->severity = below(2);
 }
 
 /* ---- the record */
@@ -66,11 +82,62 @@ static void draw_sound_record(struct call *c, unsigned severity) {
     c->record[6] = (uint8_t)!one_in(3);
 }
 
+static void set_clean(struct call *c, unsigned run, unsigned letter, unsigned column) {
+    c->record[CLEAN] = (uint8_t)run;
+    c->record[CLEAN_LETTER] = (uint8_t)letter;
+    c->record[CLEAN_COLUMN] = (uint8_t)column;
+}
+
+/* A clean run on the lot's own fraction, or on any of the severity. Beyond tightened it is out of range. */
+static void draw_clean_run(struct call *c) {
+    uint8_t letter = 0;
+    unsigned third = 15u + c->record[0], s = third + below(2), on = between(s - 15, LETTER_R);
+    bool lots = ref_letter(c->size, c->level, &letter) == 0 && c->column <= MOST_ITEM_COLUMN && !one_in(3);
+    if (lots && (letter + c->column == third || letter + c->column == third + 1)) {
+        on = letter;
+        s = letter + c->column;
+    }
+    set_clean(c, between(1, 2), on, s - on);
+}
+
+/* The ways in which a clean run can be out of range; some leave it in range, on another plan. */
+static void damage_clean_run(struct call *c) {
+    static const uint8_t over[][2] = {{0, 16}, {0, 17}, {1, 16}};
+    unsigned tightened = c->record[0] == TIGHTENED, at = below(tightened ? 3 : 1), run = between(1, 2);
+    switch (below(7)) {
+    case 0:
+        c->record[CLEAN] = 3;
+        break;
+    case 1:
+        c->record[CLEAN] = 0;
+        break;
+    case 2:
+        set_clean(c, run, 0, 0);
+        break;
+    case 3:
+        set_clean(c, run, LETTER_R + 1, below(tightened + 1));
+        break;
+    case 4:
+        set_clean(c, run, over[at][0], over[at][1]);
+        break;
+    case 5:
+        c->record[CLEAN_COLUMN] ^= 1;
+        break;
+    default:
+        c->record[0] = (uint8_t)below(4);
+        memset(c->record + 1, 0, 4);
+    }
+}
+
 static void draw_record(struct call *c) {
     static const uint8_t edges[] = {0, 1, 2, 3, 4, 5, 15, 16, 17, 24, 30, 31, 32, 33, 48, 64, 128, 255};
     draw_sound_record(c, c->severity <= STOPPED ? c->severity : below(4));
+    if (c->record[0] <= TIGHTENED ? !one_in(3) : one_in(30))
+        draw_clean_run(c);
+    if (one_in(12))
+        damage_clean_run(c);
     if (c->severity > STOPPED || one_in(12))
-        c->record[below(7)] = PICK(edges);
+        c->record[below(RECORD)] = PICK(edges);
     if (one_in(60))
         c->record_len = below(RECORD_ROOM + 1);
 }
@@ -109,6 +176,20 @@ static void draw_single_sample(struct call *c, enum mood mood) {
         put_items(c, n, total_near(ac, n, mood));
     else
         put_items(c, below(20), below(3));
+}
+
+/* On a fraction the total is 0, 1 or 2. */
+static void draw_fractional_sample(struct call *c, enum mood mood) {
+    uint8_t letter, share;
+    uint16_t n, ac;
+    uint32_t status =
+        ref_fractional_plan(c->size, c->level, c->column, c->severity, c->book, c->book_len, &letter, &n, &ac, &share);
+    if (status != 0)
+        put_items(c, below(20), below(3));
+    else if (share == 0)
+        put_items(c, n, total_near(ac, n, mood));
+    else
+        put_items(c, n, mood == GOOD ? one_in(6) : mood == BAD ? between(1, 2) : below(3));
 }
 
 /* A running total at or beside one of the stage's two numbers. */
@@ -190,6 +271,8 @@ static void draw_items(struct call *c, const struct plans *p, enum mood mood) {
     c->sample_len = 0;
     if (c->function == SINGLE || c->function == CLOSE_SINGLE)
         draw_single_sample(c, mood);
+    else if (c->function == FRACTIONAL || c->function == CLOSE_FRACTIONAL)
+        draw_fractional_sample(c, mood);
     else if (c->function != SEQUENTIAL && p->there[1])
         draw_staged_sample(c, p, mood);
     else if (c->function == SEQUENTIAL && p->there[2])
@@ -298,10 +381,10 @@ static void draw_room(struct call *c) {
 
 static enum function draw_function(void) {
     static const uint8_t often[FUNCTIONS] = {
-        [LETTER] = 1,         [PLAN] = 7,    [STAGED_PLAN] = 5,  [SEQUENTIAL_PLAN] = 3,
-        [VARIABLES_PLAN] = 3, [SINGLE] = 11, [STAGED] = 14,      [SEQUENTIAL] = 12,
-        [UPPER] = 7,          [LOWER] = 7,   [CLOSE_SINGLE] = 9, [CLOSE_STAGED] = 8,
-        [NEXT] = 4,           [LIST] = 2,    [CHECK_BOOK] = 5,   [SCREEN] = 2};
+        [LETTER] = 1,         [PLAN] = 7,       [FRACTIONAL_PLAN] = 4, [STAGED_PLAN] = 5,  [SEQUENTIAL_PLAN] = 3,
+        [VARIABLES_PLAN] = 3, [SINGLE] = 8,     [STAGED] = 11,         [SEQUENTIAL] = 10,  [UPPER] = 6,
+        [LOWER] = 6,          [FRACTIONAL] = 5, [CLOSE_SINGLE] = 8,    [CLOSE_STAGED] = 7, [CLOSE_FRACTIONAL] = 6,
+        [NEXT] = 4,           [LIST] = 1,       [CHECK_BOOK] = 4,      [SCREEN] = 1};
     unsigned at = below(100), f = 0;
     for (; at >= often[f]; f++)
         at -= often[f];
@@ -338,14 +421,35 @@ void draw_case(struct call *c) {
         damage_book(c);
 }
 
+static void draw_small_lot(struct call *c) {
+    c->size = one_in(4) ? between(2, 500) : between(2, 60);
+    c->level = below(7);
+}
+
+/* A lot on the plan of the record's clean run, of any size and level that have its letter; else on any fraction. */
+static void go_on_with_run(struct call *c) {
+    uint8_t letter;
+    if (c->record[CLEAN] == 0 || one_in(8)) {
+        aim_at_fraction(c);
+        return;
+    }
+    for (unsigned tries = 0; tries < 1000; tries++) {
+        if (ref_letter(c->size, c->level, &letter) == 0 && letter == c->record[CLEAN_LETTER])
+            break;
+        draw_small_lot(c);
+    }
+    c->column = c->record[CLEAN_COLUMN];
+}
+
 void draw_next_lot(struct call *c, bool good) {
     struct plans plans;
     case_seed = draw_state();
-    c->size = one_in(4) ? between(2, 500) : between(2, 60);
-    c->level = below(7);
+    draw_small_lot(c);
     c->column = below(26);
     c->severity = c->record[0];
     c->resubmitted = one_in(8);
+    if (c->function == CLOSE_FRACTIONAL ? !one_in(10) : one_in(4))
+        go_on_with_run(c);
     draw_book(c, true, &plans);
     c->first_stage = plans.size[0];
     draw_items(c, &plans, good ? GOOD : BAD);

@@ -126,7 +126,63 @@ uint64_t ref_read_list(const uint8_t *history, size_t len, uint8_t *severities, 
     return room < len ? 11 : read_stays(history, len, &stay, severities);
 }
 
-uint64_t ref_read_record(const uint8_t *history, size_t len, uint8_t record[7]) {
+/* ---- the clean run: what was entered beside the bytes, read back from the newest original lot */
+
+/* How many lots, this one included, have one nonconforming item among them at most; 0 where the box is no fraction. */
+static unsigned lots_of_share(const struct entered *lot, unsigned severity) {
+    static const unsigned rows[][2] = {[NORMAL] = {15, 16}, [TIGHTENED] = {16, 17}};
+    unsigned s = (unsigned)lot->letter + lot->column;
+    if (!lot->in_mode || lot->column > 15 || severity > TIGHTENED)
+        return 0;
+    return s == rows[severity][0] ? 3 : s == rows[severity][1] ? 2 : 0;
+}
+
+/* The place of the newest original lot of the stay before end, or end where there is none. */
+static size_t newest_before(const uint8_t *history, size_t start, size_t end) {
+    for (size_t i = end; i > start; i--)
+        if (is_original(history[i - 1]))
+            return i - 1;
+    return end;
+}
+
+/* Whether the newest original lots of the stay before end, that many of them, were clean on the fraction of the lot. */
+static bool newest_clean(const uint8_t *history, const struct entered *entered, struct stay stay, size_t end,
+                         unsigned lots, const struct entered *on) {
+    for (; lots > 0; lots--) {
+        size_t newest = newest_before(history, stay.start, end);
+        if (newest == end || lots_of_share(&entered[newest], stay.severity) == 0 || entered[newest].total != 0)
+            return false;
+        if (entered[newest].letter != on->letter || entered[newest].column != on->column)
+            return false;
+        end = newest;
+    }
+    return true;
+}
+
+/* The clean run stands on the plan of the newest original lot. */
+static void read_clean(const uint8_t *history, const struct entered *entered, struct stay stay, size_t len,
+                       uint8_t clean[3]) {
+    size_t newest = newest_before(history, stay.start, len);
+    clean[0] = clean[1] = clean[2] = 0;
+    if (newest == len || !newest_clean(history, entered, stay, len, 1, &entered[newest]))
+        return;
+    clean[0] = newest_clean(history, entered, stay, len, 2, &entered[newest]) ? 2 : 1;
+    clean[1] = entered[newest].letter;
+    clean[2] = entered[newest].column;
+}
+
+unsigned ref_read_verdict(const uint8_t *history, const struct entered *entered, size_t len) {
+    struct stay stay;
+    const struct entered *lot = &entered[len];
+    if (read_stays(history, len, &stay, NULL) != 0)
+        return 2;
+    unsigned lots = lots_of_share(lot, stay.severity);
+    if (lots == 0 || lot->total != 1)
+        return lots == 0 ? 2 : lot->total == 0;
+    return newest_clean(history, entered, stay, len, lots - 1, lot);
+}
+
+uint64_t ref_read_record(const uint8_t *history, const struct entered *entered, size_t len, uint8_t record[10]) {
     struct stay stay;
     uint64_t status = read_stays(history, len, &stay, NULL);
     if (status != 0)
@@ -139,5 +195,6 @@ uint64_t ref_read_record(const uint8_t *history, size_t len, uint8_t record[7]) 
     record[4] = normal ? (uint8_t)last_five(history, stay.start, len) : 0;
     record[5] = as_ordered(history, len, STEADY, NOT_STEADY);
     record[6] = as_ordered(history, len, PERMISSION, WITHDRAWN);
+    read_clean(history, entered, stay, len, record + 7);
     return 0;
 }

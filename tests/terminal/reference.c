@@ -1,4 +1,7 @@
-/* A plain reading of document 01, section by section, with the record kept from lot to lot. See reference.h. */
+/*
+ * A plain reading of document 01, section by section, with the record kept from lot to lot, and of T-01 of document 02:
+ * the fractions. See reference.h.
+ */
 #include "reference.h"
 
 #include <stdbool.h>
@@ -7,6 +10,7 @@
 enum { NORMAL, TIGHTENED, REDUCED, STOPPED };
 enum { ADD_3, ADD_2, SCORE_0, NOT_ACCEPTED, RESUBMITTED, STEADY, NOT_STEADY, PERMISSION, WITHDRAWN, CORRECTIVE };
 enum { MARK = 65535, MOST_STAGES = 7, MOST_BOOK = 32768, ITEMS_COLUMN = 15, LETTER_A = 0, LETTER_E = 4, LETTER_R = 15 };
+enum { MOST_CLEAN = 2 };
 
 #define MOST_PLACE (((uint64_t)1 << 56) - 1)
 
@@ -78,8 +82,9 @@ static int tightened_box(unsigned letter, unsigned column) {
     return ac[s - 18];
 }
 
+/* Of a fraction the share is 2 or 3, for one half and one third, and Ac is 0; of any other plan the share is 0. */
 struct single_plan {
-    unsigned letter, n, ac;
+    unsigned letter, n, ac, share;
 };
 
 static struct single_plan table_plan(unsigned letter, unsigned column, unsigned severity) {
@@ -87,7 +92,15 @@ static struct single_plan table_plan(unsigned letter, unsigned column, unsigned 
     int box;
     while ((box = box_at(letter, column)) < 0)
         letter += box == UP ? -1u : 1u;
-    return (struct single_plan){letter, table_sizes[letter], (unsigned)box};
+    return (struct single_plan){letter, table_sizes[letter], (unsigned)box, 0};
+}
+
+/* The share of a box: a third and then a half stand between Ac 0 and Ac 1. 0 where the box is no fraction. */
+static unsigned share_at(unsigned letter, unsigned column, unsigned severity) {
+    unsigned s = letter + column, third = severity == NORMAL ? 15 : 16;
+    if (severity > TIGHTENED)
+        return 0;
+    return s == third ? 3 : s == third + 1 ? 2 : 0;
 }
 
 /* ---- the plan book: checking. A fault is a place in the book, or SOUND. */
@@ -331,6 +344,11 @@ static uint32_t add_items(const struct sample *sample, unsigned first, unsigned 
 
 /* ---- single sampling */
 
+static void cut_to_lot(const struct lot *lot, struct single_plan *plan) {
+    if (plan->n >= lot->size)
+        plan->n = lot->size;
+}
+
 static uint32_t find_single(const struct lot *lot, struct single_plan *plan) {
     if (lot->severity == REDUCED) {
         size_t body = find_for_lot(lot, REDUCED_SINGLES);
@@ -339,27 +357,77 @@ static uint32_t find_single(const struct lot *lot, struct single_plan *plan) {
         plan->letter = lot->letter;
         plan->n = number_at(lot->book.bytes, body);
         plan->ac = number_at(lot->book.bytes, body + 2);
+        plan->share = 0;
     } else {
         *plan = table_plan(lot->letter, lot->column, lot->severity);
     }
-    if (plan->n >= lot->size)
-        plan->n = lot->size;
+    cut_to_lot(lot, plan);
     return 0;
+}
+
+/* Judges a single sample by the acceptance number that applies to it. */
+static uint32_t judge_items(const struct lot *lot, const uint8_t *bytes, size_t len, unsigned n, unsigned ac,
+                            struct verdict *verdict) {
+    struct sample sample = sample_for(lot, bytes, len);
+    if (len != 2 * (size_t)n)
+        return 7;
+    *verdict = (struct verdict){0, n, 0, 1};
+    uint32_t status = add_items(&sample, 0, n, &verdict->total);
+    verdict->accepted = verdict->total <= ac;
+    return status;
 }
 
 static uint32_t judge_single(const struct lot *lot, const uint8_t *bytes, size_t len, struct single_plan *plan,
                              struct verdict *verdict) {
-    struct sample sample = sample_for(lot, bytes, len);
     uint32_t status = find_single(lot, plan);
+    return status != 0 ? status : judge_items(lot, bytes, len, plan->n, plan->ac, verdict);
+}
+
+/* ---- single sampling with fractions: the box of the lot's own letter, where that is one */
+
+static uint32_t find_fractional(const struct lot *lot, struct single_plan *plan) {
+    unsigned share = share_at(lot->letter, lot->column, lot->severity);
+    if (share == 0)
+        return find_single(lot, plan);
+    if (lot->column > ITEMS_COLUMN)
+        return 6;
+    *plan = (struct single_plan){lot->letter, table_sizes[lot->letter], 0, share};
+    cut_to_lot(lot, plan);
+    return 0;
+}
+
+/* The clean run of a record: how many original lots, held at 2, and the letter and column of their plan. */
+struct clean {
+    uint8_t run, letter, column;
+};
+
+static const struct clean no_clean = {0, 0, 0};
+
+/* How many clean lots on the lot's own plan came right before it. */
+static unsigned clean_before(const struct clean *clean, const struct lot *lot) {
+    return clean->letter == lot->letter && clean->column == lot->column ? clean->run : 0;
+}
+
+/* One item in so many lots: a fraction lets one pass where all the others of that many are clean. */
+static unsigned applicable_ac(const struct single_plan *plan, unsigned clean_lots) {
+    return plan->share == 0 ? plan->ac : clean_lots + 1 >= plan->share;
+}
+
+static uint32_t judge_fractional(const struct lot *lot, const struct clean *clean, const uint8_t *bytes, size_t len,
+                                 struct single_plan *plan, struct verdict *verdict) {
+    uint32_t status = find_fractional(lot, plan);
     if (status != 0)
         return status;
-    if (len != 2 * (size_t)plan->n)
-        return 7;
-    *verdict = (struct verdict){0, plan->n, 0, 1};
-    if ((status = add_items(&sample, 0, plan->n, &verdict->total)) != 0)
-        return status;
-    verdict->accepted = verdict->total <= plan->ac;
-    return 0;
+    return judge_items(lot, bytes, len, plan->n, applicable_ac(plan, clean_before(clean, lot)), verdict);
+}
+
+/* The clean run that an original lot leaves, where the severity stays. */
+static struct clean clean_after(const struct clean *clean, const struct lot *lot, const struct single_plan *plan,
+                                const struct verdict *verdict) {
+    unsigned run = clean_before(clean, lot) + 1;
+    if (plan->share == 0 || verdict->total > 0)
+        return no_clean;
+    return (struct clean){run < MOST_CLEAN ? run : MOST_CLEAN, (uint8_t)lot->letter, (uint8_t)lot->column};
 }
 
 /* ---- staged sampling */
@@ -529,6 +597,7 @@ uint32_t ref_screen(const uint8_t *readings, size_t readings_len, double *mean, 
 
 struct record {
     uint8_t severity, score, run, count, window, steady, permission;
+    struct clean clean;
 };
 
 static unsigned ones(unsigned bits) {
@@ -536,6 +605,15 @@ static unsigned ones(unsigned bits) {
     for (; bits != 0; bits &= bits - 1)
         n++;
     return n;
+}
+
+/* Table 1 gives no letter after R. */
+static bool clean_in_range(const struct clean *clean, unsigned severity) {
+    if (clean->run == 0)
+        return clean->letter == 0 && clean->column == 0;
+    if (clean->run > MOST_CLEAN || clean->letter > LETTER_R || clean->column > ITEMS_COLUMN)
+        return false;
+    return share_at(clean->letter, clean->column, severity) != 0;
 }
 
 /* False where the lent record is out of range. */
@@ -549,11 +627,11 @@ static bool read_record(struct record *r, const uint8_t *bytes, size_t len) {
         return false;
     if (r->severity != TIGHTENED && (r->run != 0 || r->count != 0))
         return false;
-    return r->steady <= 1 && r->permission <= 1;
+    return r->steady <= 1 && r->permission <= 1 && clean_in_range(&r->clean, r->severity);
 }
 
 static void start_stay(struct record *r, uint8_t severity) {
-    *r = (struct record){severity, 0, 0, 0, 0, r->steady, r->permission};
+    *r = (struct record){severity, 0, 0, 0, 0, r->steady, r->permission, no_clean};
 }
 
 static void step_normal_lot(struct record *r, unsigned event) {
@@ -594,7 +672,7 @@ static void step_order(struct record *r, unsigned event) {
         start_stay(r, NORMAL);
 }
 
-/* Moves the record by an event, or gives the number of the refusal. */
+/* Moves the record by an event, or gives the number of the refusal. The clean run only ends here, with its stay. */
 static uint32_t step(struct record *r, unsigned event) {
     if (event <= RESUBMITTED && r->severity == STOPPED)
         return 5;
@@ -652,6 +730,22 @@ uint32_t ref_plan(uint32_t size, uint32_t level, uint32_t column, uint32_t sever
     *letter = (uint8_t)plan.letter;
     *n = (uint16_t)plan.n;
     *ac = (uint16_t)plan.ac;
+    return 0;
+}
+
+uint32_t ref_fractional_plan(uint32_t size, uint32_t level, uint32_t column, uint32_t severity, const uint8_t *book,
+                             size_t book_len, uint8_t *letter, uint16_t *n, uint16_t *ac, uint8_t *share) {
+    struct lot lot = {.size = size, .level = level, .column = column, .severity = severity};
+    struct single_plan plan;
+    uint32_t status = open_lot(&lot, book, book_len);
+    if (status == 0)
+        status = find_fractional(&lot, &plan);
+    if (status != 0)
+        return status;
+    *letter = (uint8_t)plan.letter;
+    *n = (uint16_t)plan.n;
+    *ac = (uint16_t)plan.ac;
+    *share = (uint8_t)plan.share;
     return 0;
 }
 
@@ -787,6 +881,8 @@ uint32_t ref_next(uint8_t *record, size_t record_len, uint32_t event) {
     struct record r;
     if (!read_record(&r, record, record_len) || event > CORRECTIVE)
         return 1;
+    if (event < RESUBMITTED)
+        r.clean = no_clean;
     uint32_t status = step(&r, event);
     if (status == 0)
         memcpy(record, &r, sizeof r);
@@ -800,9 +896,12 @@ static uint32_t open_close(struct record *r, const uint8_t *record, size_t recor
     return open_lot(lot, book, book_len);
 }
 
-/* Moves the record by what the lot is to it, and tells that as a history byte. */
-static void close_lot(uint8_t *record, struct record *r, uint32_t resubmitted, unsigned event, uint8_t *byte) {
+/* Moves the record by what the lot is to it, and tells that as a history byte. An original lot leaves its clean run. */
+static void close_lot(uint8_t *record, struct record *r, uint32_t resubmitted, unsigned event, struct clean clean,
+                      uint8_t *byte) {
     *byte = (uint8_t)(resubmitted != 0 ? RESUBMITTED : event);
+    if (*byte != RESUBMITTED)
+        r->clean = clean;
     step(r, *byte);
     memcpy(record, r, sizeof *r);
 }
@@ -818,7 +917,7 @@ uint32_t ref_close_single(uint8_t *record, size_t record_len, uint32_t resubmitt
     if (status == 0)
         status = judge_single(&lot, sample, sample_len, &plan, &verdict);
     if (status == 0)
-        close_lot(record, &r, resubmitted, single_event(&lot, &plan, &verdict), byte);
+        close_lot(record, &r, resubmitted, single_event(&lot, &plan, &verdict), no_clean, byte);
     return answer(status, &verdict, accepted, used);
 }
 
@@ -832,7 +931,36 @@ uint32_t ref_close_staged(uint8_t *record, size_t record_len, uint32_t resubmitt
     if (status == 0)
         status = judge_staged(&lot, sample, sample_len, &verdict);
     if (status == 0)
-        close_lot(record, &r, resubmitted, staged_event(&lot, &verdict), byte);
+        close_lot(record, &r, resubmitted, staged_event(&lot, &verdict), no_clean, byte);
+    return answer(status, &verdict, accepted, used);
+}
+
+uint32_t ref_fractional(const uint8_t *record, size_t record_len, uint32_t size, uint32_t level, uint32_t column,
+                        const uint8_t *book, size_t book_len, const uint8_t *sample, size_t sample_len,
+                        uint8_t *accepted, uint16_t *used) {
+    struct lot lot = {.size = size, .level = level, .column = column};
+    struct record r;
+    struct single_plan plan;
+    struct verdict verdict;
+    uint32_t status = open_close(&r, record, record_len, &lot, book, book_len);
+    if (status == 0)
+        status = judge_fractional(&lot, &r.clean, sample, sample_len, &plan, &verdict);
+    return answer(status, &verdict, accepted, used);
+}
+
+uint32_t ref_close_fractional(uint8_t *record, size_t record_len, uint32_t resubmitted, uint32_t size, uint32_t level,
+                              uint32_t column, const uint8_t *book, size_t book_len, const uint8_t *sample,
+                              size_t sample_len, uint8_t *accepted, uint16_t *used, uint8_t *byte) {
+    struct lot lot = {.size = size, .level = level, .column = column};
+    struct record r;
+    struct single_plan plan;
+    struct verdict verdict;
+    uint32_t status = open_close(&r, record, record_len, &lot, book, book_len);
+    if (status == 0)
+        status = judge_fractional(&lot, &r.clean, sample, sample_len, &plan, &verdict);
+    if (status == 0)
+        close_lot(record, &r, resubmitted, single_event(&lot, &plan, &verdict),
+                  clean_after(&r.clean, &lot, &plan, &verdict), byte);
     return answer(status, &verdict, accepted, used);
 }
 
@@ -853,7 +981,7 @@ uint32_t ref_close_total(uint8_t *record, size_t record_len, uint32_t resubmitte
     if (status != 0)
         return status;
     verdict = (struct verdict){total <= plan.ac, plan.n, total, 1};
-    close_lot(record, &r, resubmitted, single_event(&lot, &plan, &verdict), &byte);
+    close_lot(record, &r, resubmitted, single_event(&lot, &plan, &verdict), no_clean, &byte);
     *letter = (uint8_t)plan.letter;
     *n = (uint16_t)plan.n;
     *ac = (uint16_t)plan.ac;

@@ -1,6 +1,7 @@
 /*
- * A plain reading of document 01 in C, written from the document alone. A ref_ function answers as the hm_ function of
- * the same name in hipomoake.h must. The last three have none: lotlog's closing, and the written reading of a history.
+ * A plain reading of document 01, and of T-01 of document 02, in C, written from the documents alone. A ref_ function
+ * answers as the hm_ function of the same name in hipomoake.h must. The last ones have none: lotlog's closing, and the
+ * written reading of a history.
  */
 #ifndef REFERENCE_H
 #define REFERENCE_H
@@ -11,6 +12,8 @@
 uint32_t ref_letter(uint32_t size, uint32_t level, uint8_t *letter);
 uint32_t ref_plan(uint32_t size, uint32_t level, uint32_t column, uint32_t severity, const uint8_t *book,
                   size_t book_len, uint8_t *letter, uint16_t *n, uint16_t *ac);
+uint32_t ref_fractional_plan(uint32_t size, uint32_t level, uint32_t column, uint32_t severity, const uint8_t *book,
+                             size_t book_len, uint8_t *letter, uint16_t *n, uint16_t *ac, uint8_t *share);
 uint32_t ref_staged_plan(uint32_t size, uint32_t level, uint32_t column, uint32_t severity, const uint8_t *book,
                          size_t book_len, uint8_t *letter, uint8_t *stages, uint8_t *row, size_t row_len);
 uint32_t ref_sequential_plan(uint32_t size, uint32_t level, uint32_t column, uint32_t severity, const uint8_t *book,
@@ -30,12 +33,18 @@ uint32_t ref_variables_upper(uint32_t size, uint32_t level, uint32_t column, uin
 uint32_t ref_variables_lower(uint32_t size, uint32_t level, uint32_t column, uint32_t severity, const uint8_t *book,
                              size_t book_len, const uint8_t *readings, size_t readings_len, int32_t limit,
                              uint8_t *accepted, uint16_t *used);
+uint32_t ref_fractional(const uint8_t *record, size_t record_len, uint32_t size, uint32_t level, uint32_t column,
+                        const uint8_t *book, size_t book_len, const uint8_t *sample, size_t sample_len,
+                        uint8_t *accepted, uint16_t *used);
 uint32_t ref_close_single(uint8_t *record, size_t record_len, uint32_t resubmitted, uint32_t size, uint32_t level,
                           uint32_t column, const uint8_t *book, size_t book_len, const uint8_t *sample,
                           size_t sample_len, uint8_t *accepted, uint16_t *used, uint8_t *byte);
 uint32_t ref_close_staged(uint8_t *record, size_t record_len, uint32_t resubmitted, uint32_t size, uint32_t level,
                           uint32_t column, const uint8_t *book, size_t book_len, const uint8_t *sample,
                           size_t sample_len, uint8_t *accepted, uint16_t *used, uint8_t *byte);
+uint32_t ref_close_fractional(uint8_t *record, size_t record_len, uint32_t resubmitted, uint32_t size, uint32_t level,
+                              uint32_t column, const uint8_t *book, size_t book_len, const uint8_t *sample,
+                              size_t sample_len, uint8_t *accepted, uint16_t *used, uint8_t *byte);
 uint32_t ref_next(uint8_t *record, size_t record_len, uint32_t event);
 uint64_t ref_list(const uint8_t *history, size_t len, uint8_t *severities, size_t room);
 uint32_t ref_check_book(const uint8_t *book, size_t book_len);
@@ -50,10 +59,27 @@ uint32_t ref_close_total(uint8_t *record, size_t record_len, uint32_t resubmitte
                          uint8_t *accepted);
 
 /*
+ * What stands beside a history byte for the clean run: in the mode of fractions, the lot's own letter, its column and
+ * the sample's total; all 0 beside an order, and beside a lot that entered as its byte, or with a sample of another
+ * mode.
+ */
+struct entered {
+    uint8_t in_mode, letter, column;
+    uint32_t total;
+};
+
+/*
  * The written reading of a history: each figure is counted afresh from the bytes of the present stay. The list as
  * ref_list has it, and the record after the whole history, or the status of the first bad byte with nothing written.
+ * The record's last three bytes need what was entered; the rest of it the bytes alone tell.
  */
 uint64_t ref_read_list(const uint8_t *history, size_t len, uint8_t *severities, size_t room);
-uint64_t ref_read_record(const uint8_t *history, size_t len, uint8_t record[7]);
+uint64_t ref_read_record(const uint8_t *history, const struct entered *entered, size_t len, uint8_t record[10]);
+
+/*
+ * The written reading of a verdict: 1 or 0 for the lot at len, whose own box is a fraction, from all that was entered
+ * before it, with no record; 2 where that box is no fraction at the severity after the history.
+ */
+unsigned ref_read_verdict(const uint8_t *history, const struct entered *entered, size_t len);
 
 #endif

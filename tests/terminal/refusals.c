@@ -64,17 +64,29 @@ static void put_kind_of_sample(unsigned kind) {
     call.sample_len = samples[kind].len;
 }
 
+/* ---- records: in range but for the severity, short, kept from before there were fractions, long, a clean run of 3 */
+
+enum { KEPT, SHORT, OLD, LONG_RECORD, NOT_CLEAN, RECORDS };
+
+static void put_kind_of_record(unsigned kind) {
+    static const unsigned lengths[RECORDS] = {RECORD, RECORD - 1, TOLD, RECORD + 1, RECORD};
+    memset(call.record, 0, sizeof call.record);
+    call.record[0] = (uint8_t)call.severity;
+    call.record[CLEAN] = kind == NOT_CLEAN ? 3 : 0;
+    call.record_len = lengths[kind];
+}
+
 /* ---- the mixtures */
 
 /* What is refused before a plan is looked up; 0 where nothing is. */
 static unsigned early_refusal(unsigned book) {
-    bool kept = call.function == CLOSE_SINGLE || call.function == CLOSE_STAGED;
+    bool kept = takes_record(call.function);
     uint32_t severity = kept ? call.record[0] : call.severity;
     if (call.function == LETTER)
         return call.size < 2 ? 2 : call.level > 6 ? 3 : 0;
     if (book == BROKEN || book == LONG)
         return 12;
-    if (severity > STOPPED || (kept && call.record_len != RECORD))
+    if (severity > STOPPED || (kept && (call.record_len != RECORD || call.record[CLEAN] > 2)))
         return 1;
     if (call.size < 2)
         return 2;
@@ -118,20 +130,23 @@ static bool takes_lot(enum function f) {
     return f != NEXT && f != LIST && f != CHECK_BOOK && f != SCREEN;
 }
 
+static void every_function(unsigned book, unsigned record) {
+    for (int f = 0; f < FUNCTIONS; f++) {
+        call.function = (enum function)f;
+        if (takes_lot(call.function) && (record == KEPT || takes_record(call.function)))
+            every_lot(book);
+    }
+}
+
 void refusal_cases(void) {
     draw_fixed();
     memset(&call, 0, sizeof call);
     for (unsigned book = 0; book < BOOKS; book++) {
         put_kind_of_book(book);
-        for (unsigned severity = 0; severity < SEVERITIES; severity++) {
-            call.severity = severity;
-            call.record[0] = (uint8_t)severity;
-            call.record_len = book == EMPTY && severity == NORMAL ? RECORD - 1 : RECORD;
-            for (int f = 0; f < FUNCTIONS; f++) {
-                call.function = (enum function)f;
-                if (takes_lot(call.function))
-                    every_lot(book);
+        for (unsigned record = 0; record < (book == LONG ? 1u : RECORDS); record++)
+            for (call.severity = 0; call.severity < SEVERITIES; call.severity++) {
+                put_kind_of_record(record);
+                every_function(book, record);
             }
-        }
     }
 }

@@ -2,23 +2,13 @@
 -- Assumes nothing.
 use Prim.Native.Nat.{ℕ, _≤_, _<_}
 use mathlib.Core.Path.{_≡_, ap}
-use mathlib.Core.Bool.{Bool, true, false, _&&_}
+use mathlib.Core.Bool.{false, _&&_}
 use lib.Dec.{ltb}
 use borrow.Author.Tests.{le-leb, lt-leb, eq-eqb, ne-eqb}
 use Rattle.rules.specs.Codes.{countsItems}
-use Rattle.rules.specs.Severity.{Lot, addThree, addTwo, scoreZero, notAccepted, sampled, lot, counted, singlePoints}
+use Rattle.rules.specs.Severity.{Lot, addThree, addTwo, scoreZero, Origin, lot, singlePoints}
 use Rattle.rules.specs.Severity.{stagedPoints}
 use Rattle.rules.specs.Entries.{Offered, eventFor}
-
-module _ (s : ℕ) (a : Bool) (p : Lot) where
-  pub counts-points : a ≡ true → s ≡ 0 → p ≡ counted s a p
-  counts-points e f = rw (e, eq-eqb s 0 f)
-
-  pub counts-zero : a ≡ true → (s ≡ 0 → ⊥) → scoreZero ≡ counted s a p
-  counts-zero e f = rw (e, ne-eqb s 0 f)
-
-  pub counts-bad : a ≡ false → notAccepted ≡ counted s a p
-  counts-bad e = rw e
 
 module _ (ac tighter total : ℕ) where
   pub single-three : 2 ≤ ac → total ≤ tighter → addThree ≡ singlePoints ac tighter total
@@ -38,8 +28,8 @@ module _ (stage stages : ℕ) where
   staged-zero e = rw (ne-eqb stage 1 e)
 
 -- an original lot
-pub original : (o : Offered) (l m : Lot) → o .again ≡ false → l ≡ m → lot sampled l ≡ eventFor o m
-original o l m e q = rw e (ap (lot sampled) q)
+pub original : (o : Offered) (from : Origin) (l m : Lot) → o .again ≡ false → l ≡ m → lot from l ≡ eventFor o from m
+original o from l m e q = rw e (ap (lot from) q)
 
 -- "total over n for columns 0 to 15"
 module _ (column n total : ℕ) where

@@ -10,7 +10,8 @@ use Rattle.plans.specs.declared.VerdictAnswer.the-variants as judges
 use Rattle.plans.specs.Paper.{planPaper, verdictOn}
 use Rattle.plans.proofs.OneResult.{planBack, verdictBack}
 use Rattle.severity.specs.declared.Event.{Event}
-use Rattle.severity.proofs.OneResult.{recordBack, eventBack, event-back}
+use Rattle.severity.proofs.OneResult.{eventBack, event-back}
+use Rattle.supply.proofs.OneResult.{supplyBack}
 use Rattle.closing.specs.declared.ClosedAnswer.{ClosedAnswer}
 use Rattle.closing.specs.declared.ClosedAnswer.the-variants as closes
 use Rattle.closing.specs.declared.SingleJudged.{SingleJudged}
@@ -29,7 +30,7 @@ closedBack (given c) =
     (record {
       verdict = verdictBack (c .judged .verdict);
       event = eventBack (c .event);
-      «record_after» = recordBack (c .recordAfter);
+      «supply_after» = supplyBack (c .supplyAfter);
     })
 
 module _ {P : Type 0} (plan : P) where
@@ -41,7 +42,7 @@ module _ {P : Type 0} (plan : P) where
   closed-back (closes.Refused n p) = refl
   closed-back (closes.Given c) =
       ap
-      (λ (e : Event). closes.Given (record { verdict = c .verdict; event = e; «record_after» = c .«record_after» }))
+      (λ (e : Event). closes.Given (record { verdict = c .verdict; event = e; «supply_after» = c .«supply_after» }))
       (event-back (c .event))
 
   -- of enter

@@ -3,10 +3,12 @@
 use Rattle.rules.specs.Refusals.{Answer, refused, given, andThen}
 use Rattle.rules.specs.Verdict.{Verdict, Judged}
 use Rattle.rules.specs.Single.{Plan}
-use Rattle.rules.specs.Severity.{Lot, Event, Record, step, counted, stagedPoints}
+use Rattle.rules.specs.Severity.{Lot, Event, Record, counted, stagedPoints}
+use Rattle.rules.specs.Supply.{Supply, move}
 use Rattle.rules.specs.Entries as rules
 use Rattle.plans.specs.Paper.{planPaper, verdictPaper, verdictOn, Beside}
-use Rattle.severity.specs.Paper.{recordPaper, eventPaper}
+use Rattle.severity.specs.Paper.{eventPaper}
+use Rattle.supply.specs.Paper.{supplyPaper}
 use Rattle.closing.specs.declared.Offered.{Offered}
 use Rattle.closing.specs.declared.ClosedAnswer.{ClosedAnswer}
 use Rattle.closing.specs.declared.ClosedAnswer.the-variants as closes
@@ -24,8 +26,8 @@ abbrev pub stagedLot : Record → Verdict → Lot
 stagedLot r v = counted (r .severity) (v .accepted) (stagedPoints (v .stage) (v .stages))
 
 -- A lot that was judged, taken into its record as an event: `closedWith` at the event that it stands for.
-abbrev pub entered : {P : Type 0} → Record → Event → Judged P Verdict → Answer (rules.Closed P)
-entered r e j = andThen (step r e) (λ t. given (record { judged = j; event = e; recordAfter = t }))
+abbrev pub entered : {P : Type 0} → Supply → Event → Judged P Verdict → Answer (rules.Closed P)
+entered s e j = andThen (move s e) (λ t. given (record { judged = j; event = e; supplyAfter = t }))
 
 -- refused, or closed on the plan beside it
 abbrev pub closedOn : {P : Type 0} → ClosedAnswer → P → Answer (rules.Closed P)
@@ -35,7 +37,7 @@ closedOn (closes.Given c) plan =
     (record {
       judged = judgedOn plan (verdictPaper (c .verdict));
       event = eventPaper (c .event);
-      recordAfter = recordPaper (c .«record_after»);
+      supplyAfter = supplyPaper (c .«supply_after»);
     })
 
 -- a verdict, and an answer, where the plan is left out

@@ -5,11 +5,12 @@ ghost use mathlib.Core.Bool.{_&&_};
 ghost use lib.Dec.{ltb};
 ghost use Rattle.rules.specs.Refusals.{refused, andThen};
 ghost use Rattle.rules.specs.Codes.{countsItems};
-ghost use Rattle.rules.specs.Severity.{counted, singlePoints, stagedPoints};
-ghost use Rattle.rules.specs.Entries.{askedOn, eventFor, singleCounts, onRecord, closedWith, totalOn, judgeTotal};
-ghost use Rattle.rules.specs.Entries.{closeTotal};
+ghost use Rattle.rules.specs.Severity.{counted, sampled, singlePoints, stagedPoints};
+ghost use Rattle.rules.specs.Entries.{askedOn, eventFor, singleCounts, singleEvent, onSupply, closedWith, totalOn};
+ghost use Rattle.rules.specs.Entries.{judgeTotal, closeTotal};
 ghost use Rattle.plans.specs.Paper.{askedPaper, planPaper, verdictPaper, beside, zeroPlan};
-ghost use Rattle.severity.specs.Paper.{lotPaper, eventPaper, recordPaper};
+ghost use Rattle.severity.specs.Paper.{lotPaper, originPaper, eventPaper, recordPaper};
+ghost use Rattle.supply.specs.Paper.{supplyPaper};
 ghost use Rattle.closing.specs.Paper.{offeredPaper, judgedOn, stagedLot, entered, unplanned, closedOn};
 ghost use Rattle.closing.specs.Paper.{closedPaper, judgedBeside, closedBeside, planJudged, planClosed};
 use plans::Asked;
@@ -22,10 +23,9 @@ use plans::Verdict;
 use plans::VerdictAnswer;
 use severity::Event;
 use severity::Lot;
-use severity::NORMAL;
 use severity::Origin;
-use severity::Record;
-use severity::Stepped;
+use supply::Moved;
+use supply::Supply;
 
 // A lot that is offered to be closed.
 pub struct Offered {
@@ -39,7 +39,7 @@ pub struct Offered {
 pub struct Closed {
     pub verdict: Verdict,
     pub event: Event,
-    pub record_after: Record,
+    pub supply_after: Supply,
 }
 
 pub enum ClosedAnswer {
@@ -57,19 +57,6 @@ pub struct SingleJudged {
 pub struct SingleClosed {
     pub answer: ClosedAnswer,
     pub plan: SinglePlan,
-}
-
-// The score of a lot: only normal keeps one.
-fn counts(severity: u8, accepted: bool, points: Lot) -> Lot
-    ensures { λ r. ⌜ lotPaper r ≡ counted severity accepted (lotPaper points) ⌝ }
-{
-    if accepted {
-        if severity == NORMAL {
-            return points;
-        }
-        return Lot::ScoreZero;
-    }
-    Lot::NotAccepted
 }
 
 // `tighter` is the Ac one column tighter at the letter that gives the size.
@@ -96,45 +83,59 @@ fn staged_points(stage: u8, stages: u8) -> Lot
 }
 
 // "Resubmitted lots are judged at the present severity and change nothing."
-fn event_for(old: Record, lot: Offered, accepted: bool, points: Lot) -> Event
-    ensures { λ r. ⌜ eventPaper r ≡ eventFor (offeredPaper lot) (counted (old .severity) accepted (lotPaper points)) ⌝ }
+fn event_for(severity: u8, lot: Offered, from: Origin, accepted: bool, points: Lot) -> Event
+    ensures { λ r. ⌜ eventPaper r
+        ≡ eventFor (offeredPaper lot) (originPaper from) (counted severity accepted (lotPaper points)) ⌝ }
 {
     if lot.again {
         return Event::Resubmitted;
     }
-    Event::Lot(Origin::Sampled, counts(old.severity, accepted, points))
+    Event::Lot(from, supply::counts(severity, accepted, points))
 }
 
-// The event that a lot judged on a single plan stands for.
-pub fn single_event(old: Record, lot: Offered, plan: SinglePlan, verdict: Verdict) -> Event
-    ensures { λ r. ⌜ eventPaper r ≡ eventFor (offeredPaper lot) (singleCounts (recordPaper old) (offeredPaper lot)
+// The event that a lot judged on a single plan stands for, by how it enters.
+pub fn single_event(
+    old: Supply,
+    lot: Offered,
+    from: Origin,
+    plan: SinglePlan,
+    verdict: Verdict,
+) -> Event
+    ensures { λ r. ⌜ eventPaper r
+        ≡ eventFor (offeredPaper lot) (originPaper from) (singleCounts (recordPaper (old .switching)) (offeredPaper lot)
         (judgedOn (planPaper plan) (verdictPaper verdict))) ⌝ }
 {
     let tighter = plans::tighter_ac(plan.letter, lot.column);
     let points = single_points(plan.ac, tighter, verdict.total);
-    event_for(old, lot, verdict.accepted, points)
+    event_for(old.switching.severity, lot, from, verdict.accepted, points)
 }
 
 // .. and one judged on a staged plan.
-pub fn staged_event(old: Record, lot: Offered, verdict: Verdict) -> Event
-    ensures { λ r. ⌜ eventPaper r
-        ≡ eventFor (offeredPaper lot) (stagedLot (recordPaper old) (verdictPaper verdict)) ⌝ }
+pub fn staged_event(old: Supply, lot: Offered, verdict: Verdict) -> Event
+    ensures { λ r. ⌜ eventPaper r ≡ eventFor (offeredPaper lot) sampled
+        (stagedLot (recordPaper (old .switching)) (verdictPaper verdict)) ⌝ }
 {
     let points = staged_points(verdict.stage, verdict.stages);
-    event_for(old, lot, verdict.accepted, points)
+    event_for(
+        old.switching.severity,
+        lot,
+        Origin::Sampled,
+        verdict.accepted,
+        points,
+    )
 }
 
 // A lot that was judged enters its record as an event.
-pub fn enter(old: Record, event: Event, verdict: Verdict) -> ClosedAnswer
-    ensures { λ r. ⌜ closedPaper r ≡ onRecord (recordPaper old)
-        (entered (recordPaper old) (eventPaper event) (unplanned (verdictPaper verdict))) ⌝ }
+pub fn enter(old: Supply, event: Event, verdict: Verdict) -> ClosedAnswer
+    ensures { λ r. ⌜ closedPaper r ≡ onSupply (supplyPaper old)
+        (entered (supplyPaper old) (eventPaper event) (unplanned (verdictPaper verdict))) ⌝ }
 {
-    match severity::update(old, event) {
-        Stepped::Refused(number, place) => ClosedAnswer::Refused(number, place),
-        Stepped::Given(new) => ClosedAnswer::Given(Closed {
+    match supply::update(old, event) {
+        Moved::Refused(number, place) => ClosedAnswer::Refused(number, place),
+        Moved::Given(new) => ClosedAnswer::Given(Closed {
             verdict,
             event,
-            record_after: new,
+            supply_after: new,
         }),
     }
 }
@@ -161,28 +162,28 @@ fn with_plan(plan: SinglePlan, answer: ClosedAnswer) -> SingleClosed
 }
 
 // A lot that was judged on a single plan is taken into its record.
-pub fn take_single(old: Record, lot: Offered, judged: SingleJudged) -> SingleClosed
+pub fn take_single(old: Supply, lot: Offered, judged: SingleJudged) -> SingleClosed
     ensures { λ r. ⌜ closedBeside r ≡ beside zeroPlan planClosed (andThen (judgedBeside judged .answer)
-        (λ j. onRecord (recordPaper old) (closedWith (recordPaper old) (offeredPaper lot)
-        (singleCounts (recordPaper old) (offeredPaper lot)) j))) ⌝ }
+        (λ j. onSupply (supplyPaper old) (closedWith (supplyPaper old)
+        (singleEvent (recordPaper (old .switching)) (offeredPaper lot)) j))) ⌝ }
 {
     let answer = judged.answer;
     let plan = judged.plan;
     match answer {
         VerdictAnswer::Refused(number, place) => unclosed(number, place),
         VerdictAnswer::Given(verdict) => {
-            let event = single_event(old, lot, plan, verdict);
+            let event = single_event(old, lot, Origin::Sampled, plan, verdict);
             with_plan(plan, enter(old, event, verdict))
         }
     }
 }
 
 // The lot as it is asked about, at the present severity.
-pub fn asked_on(old: Record, lot: Offered) -> Asked
-    ensures { λ r. ⌜ askedPaper r ≡ askedOn (recordPaper old) (offeredPaper lot) ⌝ }
+pub fn asked_on(old: Supply, lot: Offered) -> Asked
+    ensures { λ r. ⌜ askedPaper r ≡ askedOn (recordPaper (old .switching)) (offeredPaper lot) ⌝ }
 {
     Asked {
-        severity: old.severity as u32,
+        severity: old.switching.severity as u32,
         size: lot.size,
         level: lot.level,
         column: lot.column,
@@ -242,11 +243,11 @@ fn judge_total(lot: Asked, total: u32) -> SingleJudged
 }
 
 // A single lot closed by its total, at a bench without a book.
-pub fn close_total(old: Record, lot: Offered, total: u32) -> SingleClosed
+pub fn close_total(old: Supply, lot: Offered, total: u32) -> SingleClosed
     ensures { λ r. ⌜ closedBeside r
-        ≡ beside zeroPlan planClosed (closeTotal (recordPaper old) (offeredPaper lot) total) ⌝ }
+        ≡ beside zeroPlan planClosed (closeTotal (supplyPaper old) (offeredPaper lot) total) ⌝ }
 {
-    if severity::in_range(old) {
+    if supply::in_range(old) {
         let asked = asked_on(old, lot);
         return take_single(old, lot, judge_total(asked, total));
     }

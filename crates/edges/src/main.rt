@@ -1,5 +1,7 @@
-// Every case of document 01's 'Worked at the edges' run through the public entries, each printed with its answer.
-// (lotlog's listing is run by the program lotlog.)
+// Every case of document 01's 'Worked at the edges' run through the public entries, each printed with its answer, and
+// cases of document 02, T-01. (lotlog's listing is run by the program lotlog.)
+mod fractions;
+
 use history::Listed;
 use libc::STDOUT_FILENO;
 use plans::Asked;
@@ -393,4 +395,5 @@ fn main() {
     staged_samples();
     variables_samples();
     histories();
+    fractions::all();
 }

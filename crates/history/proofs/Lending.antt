@@ -2,15 +2,15 @@
 -- Assumes nothing.
 use Prim.Native.Nat.{ℕ}
 use mathlib.Core.Path.{_≡_}
-use Rattle.severity.specs.declared.Record.{Record}
-use Rattle.severity.specs.declared.Stepped.{Stepped}
-use Rattle.severity.specs.declared.Stepped.the-variants.{Refused, Given}
-use Rattle.severity.specs.Paper.{recordPaper, steppedPaper}
+use Rattle.supply.specs.declared.Supply.{Supply}
+use Rattle.supply.specs.declared.Moved.{Moved}
+use Rattle.supply.specs.declared.Moved.the-variants.{Refused, Given}
+use Rattle.supply.specs.Paper.{supplyPaper, movedPaper}
 use Rattle.history.specs.Paper.{keptOf}
 
-module _ (a : Stepped) (r : Record) where
-  pub kept-given : (t : Record) → a ≡ Given t → recordPaper t ≡ keptOf (steppedPaper a) (recordPaper r)
+module _ (a : Moved) (s : Supply) where
+  pub kept-given : (t : Supply) → a ≡ Given t → supplyPaper t ≡ keptOf (movedPaper a) (supplyPaper s)
   kept-given t e = rw e
 
-  pub kept-refused : (n k : ℕ) → a ≡ Refused n k → recordPaper r ≡ keptOf (steppedPaper a) (recordPaper r)
+  pub kept-refused : (n k : ℕ) → a ≡ Refused n k → supplyPaper s ≡ keptOf (movedPaper a) (supplyPaper s)
   kept-refused n k e = rw e

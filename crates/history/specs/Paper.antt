@@ -4,13 +4,14 @@ use mathlib.Core.Path.{_≡_}
 use mathlib.Core.List.{List}
 use lib.ListN.{length}
 use Rattle.rules.specs.Refusals.{Answer, refused, given}
-use Rattle.rules.specs.Severity as paper
+use Rattle.rules.specs.Supply as paper
 use Rattle.rules.specs.History.{Work, listed, leftIn}
-use Rattle.rules.specs.Entries.{onRecord}
+use Rattle.rules.specs.Entries.{moved}
 use Rattle.severity.specs.declared.Event.{Event}
-use Rattle.severity.specs.declared.Record.{Record}
-use Rattle.severity.specs.declared.Stepped.{Stepped}
-use Rattle.severity.specs.Paper.{recordPaper, eventPaper, steppedPaper}
+use Rattle.severity.specs.Paper.{eventPaper}
+use Rattle.supply.specs.declared.Supply.{Supply}
+use Rattle.supply.specs.declared.Moved.{Moved}
+use Rattle.supply.specs.Paper.{supplyPaper, movedPaper}
 use Rattle.history.specs.declared.Listed.{Listed}
 use Rattle.history.specs.declared.Listed.the-variants as listing
 
@@ -24,11 +25,11 @@ pub record Lists (w : Work) (h out last : List ℕ) (r : Listed) : Type 0 where
   pub buffer : last ≡ leftIn (listed w h (length out)) w h out
 
 -- the record that is kept after an answer: "A refusal .. writes nothing"
-abbrev pub keptOf : Answer paper.Record → paper.Record → paper.Record
-keptOf (refused n k) r = r
-keptOf (given t) r = t
+abbrev pub keptOf : Answer paper.Supply → paper.Supply → paper.Supply
+keptOf (refused n k) s = s
+keptOf (given t) s = t
 
 -- The lent record's whole promise: the answer, and the record then.
-pub record Closes (old : Record) (e : Event) (new : Record) (r : Stepped) : Type 0 where
-  pub answer : steppedPaper r ≡ onRecord (recordPaper old) (paper.step (recordPaper old) (eventPaper e))
-  pub left : recordPaper new ≡ keptOf (steppedPaper r) (recordPaper old)
+pub record Closes (old : Supply) (e : Event) (new : Supply) (r : Moved) : Type 0 where
+  pub answer : movedPaper r ≡ moved (supplyPaper old) (eventPaper e)
+  pub left : supplyPaper new ≡ keptOf (movedPaper r) (supplyPaper old)

@@ -1,11 +1,13 @@
 // The list of a history's severities, for any work; and a supply's record, lent, that an event moves.
 ghost use mathlib.Core.Path.{_≡_};
-ghost use Rattle.severity.specs.Paper.{workPaper, recordPaper, steppedPaper};
+ghost use Rattle.severity.specs.Paper.{workPaper};
+ghost use Rattle.supply.specs.Paper.{supplyPaper, movedPaper};
 ghost use Rattle.history.specs.Paper.{Lists, keptOf, Closes};
 use severity::Event;
-use severity::Record;
 use severity::Stepped;
 use severity::Work;
+use supply::Moved;
+use supply::Supply;
 
 // The refusal of a buffer that is too short.
 pub const BUFFER_SHORT: u8 = 11;
@@ -36,21 +38,21 @@ pub fn list_severities(work: Work, history: &[u8], out: &mut [u8]) -> Listed
 }
 
 // The record to keep after an answer: a refusal leaves it as it was.
-fn kept(answer: Stepped, old: Record) -> Record
-    ensures { λ r. ⌜ recordPaper r ≡ keptOf (steppedPaper answer) (recordPaper old) ⌝ }
+fn kept(answer: Moved, old: Supply) -> Supply
+    ensures { λ r. ⌜ supplyPaper r ≡ keptOf (movedPaper answer) (supplyPaper old) ⌝ }
 {
     match answer {
-        Stepped::Given(new) => new,
-        Stepped::Refused(_, _) => old,
+        Moved::Given(new) => new,
+        Moved::Refused(_, _) => old,
     }
 }
 
 // "The bench keeps one supply record and updates it as each lot closes": the lent form of `update`.
-pub fn close_lot(supply: &mut Record, event: Event) -> Stepped
-    ensures { λ r. ⌜ Closes (now (supply .entry)) event (now (supply .exit)) r ⌝ }
+pub fn close_lot(lent: &mut Supply, event: Event) -> Moved
+    ensures { λ r. ⌜ Closes (now (lent .entry)) event (now (lent .exit)) r ⌝ }
 {
-    let old = *supply;
-    let answer = severity::update(old, event);
-    *supply = kept(answer, old);
+    let old = *lent;
+    let answer = supply::update(old, event);
+    *lent = kept(answer, old);
     answer
 }

@@ -8,14 +8,14 @@ use mathlib.Core.List.{List, []}
 use lib.ListN.{length}
 use lib.Seq.{length-take-le}
 use borrow.Author.Tests.{lt-ltb, le-ltb, le-leb, lt-leb, ne-eqb}
-use Rattle.rules.specs.Severity as paper
+use Rattle.rules.specs.Supply as paper
 use Rattle.rules.specs.History.{Work}
 use Rattle.rules.specs.Log.{newline, lineAfter}
 use Rattle.rules.specs.Feeding.{upTo, soFar, longestLine, isBegun, Held, holding, ended, fed, finished}
 use Rattle.rules.proofs.Bounded.{by-le}
 use Rattle.rules.proofs.Feeding.{going, ends, goes, fed-ends, fed-goes-on}
-use Rattle.severity.specs.declared.Record.{Record}
-use Rattle.severity.specs.Paper.{recordPaper}
+use Rattle.supply.specs.declared.Supply.{Supply}
+use Rattle.supply.specs.Paper.{supplyPaper}
 use Rattle.lottexts.specs.Printing.{Puts}
 use Rattle.lotlines.specs.declared.Logged.{Logged}
 use Rattle.lotlines.specs.declared.State.{State}
@@ -32,7 +32,7 @@ module _ (w : Work) (s : State) {piece kept : List ℕ} {gathered : Gathered} (w
   gone =
       ap (λ (n : ℕ). heldOf (s .supply) (s .line) n kept) (g .long)
       ∙ ap (λ (l : List ℕ). heldOf (s .supply) (s .line) (lengthAfter (s .length) (upTo newline piece)) l) (g .kept)
-      ∙ ap (holding (recordPaper (s .supply)) (s .line)) (kept-begun (s .length) (s .bytes) (upTo newline piece) whole)
+      ∙ ap (holding (supplyPaper (s .supply)) (s .line)) (kept-begun (s .length) (s .bytes) (upTo newline piece) whole)
 
   pub feed-ends : {out last : List ℕ} {logged : Logged} {after : ℕ} → gathered .taken < length piece
       → Logs (ended w (heldOf (s .supply) (s .line) (gathered .length) kept)) out last logged
@@ -46,7 +46,7 @@ module _ (w : Work) (s : State) {piece kept : List ℕ} {gathered : Gathered} (w
   feed-ends {out} {last} {logged} {after} h l e =
       record {
         held =
-            ap (λ (r : paper.Record). holding r after (soFar [])) (there .held)
+            ap (λ (t : paper.Supply). holding t after (soFar [])) (there .held)
             ∙ ap (λ (n : ℕ). holding (ended w (going (heldPaper s) (upTo newline piece)) .held) n (soFar [])) e
             ∙ sym (ap (λ f. f .kept) answer);
         taken = omega (arith, g .taken, ap (λ f. f .taken) answer);
@@ -89,7 +89,7 @@ module _ (w : Work) (s : State) {piece kept : List ℕ} {gathered : Gathered} (w
       answer = fed-goes-on w (heldPaper s) piece outside
 
 -- finishing
-pub nothing-begun : (w : Work) (supply : Record) (line n : ℕ) (bytes out : List ℕ) → n ≡ 0
+pub nothing-begun : (w : Work) (supply : Supply) (line n : ℕ) (bytes out : List ℕ) → n ≡ 0
     → Puts 0 (finished w (heldOf supply line n bytes)) out out 0
 nothing-begun w supply line n bytes out e = rw e (nothing-put out)
 
@@ -100,7 +100,7 @@ is-begun n bytes whole h =
     (le-leb n longestLine e, length-take-le n bytes (omega arith), ne-eqb n 0 h))
     (λ e. simp (lt-leb n longestLine e))
 
-pub begun-ended : (w : Work) (supply : Record) (line n : ℕ) (bytes : List ℕ) {out last : List ℕ} {logged : Logged}
+pub begun-ended : (w : Work) (supply : Supply) (line n : ℕ) (bytes : List ℕ) {out last : List ℕ} {logged : Logged}
     → length bytes ≡ longestLine → (n ≡ 0 → ⊥) → Logs (ended w (heldOf supply line n bytes)) out last logged
     → Puts 0 (finished w (heldOf supply line n bytes)) out last (logged .written)
 begun-ended w supply line n bytes whole h l = rw (is-begun n bytes whole h) (l .shown)

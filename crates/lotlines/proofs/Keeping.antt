@@ -10,14 +10,14 @@ use lib.Dec.{ltb}
 use lib.ListN.{length, getD, drop, set, length-set, drop-of-length-le, replicate}
 use lib.Seq.{take-suc-set, length-take-le, drop-cons}
 use borrow.Author.Tests.{lt-ltb, le-ltb, le-leb, lt-leb, eq-eqb, ne-eqb}
-use Rattle.rules.specs.Severity.{fresh}
+use Rattle.rules.specs.Supply.{freshSupply}
 use Rattle.rules.specs.History.{Work}
 use Rattle.rules.specs.Log.{newline}
 use Rattle.rules.specs.Feeding.{upTo, Begun, longestLine, oneMore, starting}
 use Rattle.rules.proofs.Bounded.{by-le}
 use Rattle.rules.proofs.Feeding.{extended}
-use Rattle.severity.specs.declared.Record.{Record}
-use Rattle.severity.specs.Paper.{recordPaper}
+use Rattle.supply.specs.declared.Supply.{Supply}
+use Rattle.supply.specs.Paper.{supplyPaper}
 use Rattle.lotlines.specs.Paper.{begunOf, heldOf, lengthWith, bytesWith, lengthAfter, bytesAfter, Gathers}
 
 -- one byte more
@@ -115,7 +115,7 @@ pub no-room : (n b : ℕ) (bytes : List ℕ) → longestLine ≤ n
     → (suc longestLine ≡ lengthWith n) × (bytes ≡ bytesWith n bytes b)
 no-room n b bytes h = (simp (le-ltb n longestLine h), simp (le-ltb n longestLine h))
 
-pub starts-held : (w : Work) (supply : Record) → recordPaper supply ≡ fresh (w .permission)
+pub starts-held : (w : Work) (supply : Supply) → supplyPaper supply ≡ freshSupply (w .permission)
     → heldOf supply 1 0 (replicate longestLine 0) ≡ starting w
 starts-held w supply e = rw e refl
 

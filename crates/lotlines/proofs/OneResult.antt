@@ -6,8 +6,8 @@ use mathlib.Core.Path.{_≡_, sym, ap, _∙_}
 use mathlib.Core.List.{List}
 use Rattle.rules.specs.History.{Work}
 use Rattle.rules.specs.Feeding.{Held}
-use Rattle.severity.specs.declared.Record.{Record}
-use Rattle.severity.proofs.OneResult.{record-one}
+use Rattle.supply.specs.declared.Supply.{Supply}
+use Rattle.supply.proofs.OneResult.{supply-one}
 use Rattle.lottexts.proofs.OneResult.{puts-one}
 use Rattle.lotlines.specs.declared.State.{State}
 use Rattle.lotlines.specs.declared.Fed.{Fed}
@@ -15,14 +15,14 @@ use Rattle.lotlines.specs.Paper.{heldPaper, Starts, Feeds}
 
 state-one : (a b : State) → heldPaper a ≡ heldPaper b → a .length ≡ b .length → a .bytes ≡ b .bytes → a ≡ b
 state-one a b h l k =
-    ap (λ (r : Record). made r (a .line) (a .length) (a .bytes))
-    (record-one (a .supply) (b .supply) (ap (λ (s : Held). s .supply) h))
+    ap (λ (s : Supply). made s (a .line) (a .length) (a .bytes))
+    (supply-one (a .supply) (b .supply) (ap (λ (s : Held). s .supply) h))
     ∙ ap (λ (n : ℕ). made (b .supply) n (a .length) (a .bytes)) (ap (λ (s : Held). s .line) h)
     ∙ ap (λ (n : ℕ). made (b .supply) (b .line) n (a .bytes)) l
     ∙ ap (made (b .supply) (b .line) (b .length)) k
   where
-    made : Record → ℕ → ℕ → List ℕ → State
-    made r line n bytes = record { supply = r; line = line; length = n; bytes = bytes }
+    made : Supply → ℕ → ℕ → List ℕ → State
+    made s line n bytes = record { supply = s; line = line; length = n; bytes = bytes }
 
 pub start-one : {w : Work} (a b : State) → Starts w a → Starts w b → a ≡ b
 start-one a b p q =

@@ -9,8 +9,8 @@ use Rattle.rules.specs.History.{Work}
 use Rattle.rules.specs.Log as log
 use Rattle.rules.specs.Log.{newline}
 use Rattle.rules.specs.Feeding.{Begun, soFar, tooLong, longestLine, Held, holding, starting, fed, upTo}
-use Rattle.severity.specs.declared.Record.{Record}
-use Rattle.severity.specs.Paper.{recordPaper}
+use Rattle.supply.specs.declared.Supply.{Supply}
+use Rattle.supply.specs.Paper.{supplyPaper}
 use Rattle.lottexts.specs.Printing.{Puts}
 use Rattle.lotlines.specs.declared.Logged.{Logged}
 use Rattle.lotlines.specs.declared.State.{State}
@@ -19,15 +19,15 @@ use Rattle.lotlines.specs.declared.Gathered.{Gathered}
 
 -- a line's record and text, the text in the lent array
 pub record Logs (l : log.Logged) (out last : List ℕ) (r : Logged) : Type 0 where
-  pub held : recordPaper (r .supply) ≡ l .held
+  pub held : supplyPaper (r .supply) ≡ l .held
   pub shown : Puts 0 (l .text) out last (r .written)
 
 -- the unfinished line: so many of the kept bytes, or too long
 abbrev pub begunOf : ℕ → List ℕ → Begun
 begunOf n bytes = cond (leb n longestLine) (soFar (take n bytes)) tooLong
 
-abbrev pub heldOf : Record → ℕ → ℕ → List ℕ → Held
-heldOf supply line n bytes = holding (recordPaper supply) line (begunOf n bytes)
+abbrev pub heldOf : Supply → ℕ → ℕ → List ℕ → Held
+heldOf supply line n bytes = holding (supplyPaper supply) line (begunOf n bytes)
 
 abbrev pub heldPaper : State → Held
 heldPaper s = heldOf (s .supply) (s .line) (s .length) (s .bytes)

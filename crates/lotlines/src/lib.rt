@@ -3,7 +3,8 @@ ghost use mathlib.Core.Path.{_≡_};
 ghost use lib.ListN.{length};
 ghost use Rattle.rules.specs.Log.{lineAfter, loggedLot, loggedOrder, loggedAs};
 ghost use Rattle.rules.specs.Feeding.{longestLine, ended, finished};
-ghost use Rattle.severity.specs.Paper.{workPaper, recordPaper, steppedPaper};
+ghost use Rattle.severity.specs.Paper.{workPaper};
+ghost use Rattle.supply.specs.Paper.{supplyPaper, movedPaper};
 ghost use Rattle.closing.specs.Paper.{closedBeside};
 ghost use Rattle.lotforms.specs.Reading.{linePaper};
 ghost use Rattle.lottexts.specs.Printing.{Puts};
@@ -15,9 +16,9 @@ use lotforms::Line;
 pub use lottexts::LINE;
 pub use lottexts::header;
 use plans::UNKNOWN_FORM;
-use severity::Record;
-use severity::Stepped;
 use severity::Work;
+use supply::Moved;
+use supply::Supply;
 
 // The most bytes of a line of the input that has a known form.
 pub const LONGEST: usize = 45;
@@ -27,12 +28,12 @@ const TOO_LONG: usize = 46;
 
 // What a line leaves: the record, and how many bytes it printed.
 struct Logged {
-    supply: Record,
+    supply: Supply,
     written: usize,
 }
 
-fn log_lot(supply: Record, line: u64, closed: SingleClosed, out: &mut [u8; LINE]) -> Logged
-    ensures { λ r. ⌜ Logs (loggedLot line (recordPaper supply) (closedBeside closed .answer))
+fn log_lot(supply: Supply, line: u64, closed: SingleClosed, out: &mut [u8; LINE]) -> Logged
+    ensures { λ r. ⌜ Logs (loggedLot line (supplyPaper supply) (closedBeside closed .answer))
         (now (out .entry)) (now (out .exit)) r ⌝ }
 {
     let answer = closed.answer;
@@ -44,15 +45,15 @@ fn log_lot(supply: Record, line: u64, closed: SingleClosed, out: &mut [u8; LINE]
         }
         ClosedAnswer::Given(given) => {
             let verdict = given.verdict;
-            let after = given.record_after;
+            let after = given.supply_after;
             let written = lottexts::put_lot(
                 out,
                 line,
-                supply.severity,
+                supply.switching.severity,
                 plan,
                 verdict.accepted,
-                after.severity,
-                after.score,
+                after.switching.severity,
+                after.switching.score,
             );
             Logged {
                 supply: after,
@@ -62,17 +63,18 @@ fn log_lot(supply: Record, line: u64, closed: SingleClosed, out: &mut [u8; LINE]
     }
 }
 
-fn log_order(supply: Record, line: u64, answer: Stepped, out: &mut [u8; LINE]) -> Logged
-    ensures { λ r. ⌜ Logs (loggedOrder line (recordPaper supply) (steppedPaper answer))
+fn log_order(supply: Supply, line: u64, answer: Moved, out: &mut [u8; LINE]) -> Logged
+    ensures { λ r. ⌜ Logs (loggedOrder line (supplyPaper supply) (movedPaper answer))
         (now (out .entry)) (now (out .exit)) r ⌝ }
 {
     match answer {
-        Stepped::Refused(number, _) => {
+        Moved::Refused(number, _) => {
             let written = lottexts::put_refused(out, line, number);
             Logged { supply, written }
         }
-        Stepped::Given(after) => {
-            let written = lottexts::put_order(out, line, after.severity, after.score);
+        Moved::Given(after) => {
+            let switching = after.switching;
+            let written = lottexts::put_order(out, line, switching.severity, switching.score);
             Logged {
                 supply: after,
                 written,
@@ -81,8 +83,8 @@ fn log_order(supply: Record, line: u64, answer: Stepped, out: &mut [u8; LINE]) -
     }
 }
 
-fn log_as(work: Work, supply: Record, line: u64, said: Line, out: &mut [u8; LINE]) -> Logged
-    ensures { λ r. ⌜ Logs (loggedAs (workPaper work) line (recordPaper supply) (linePaper said))
+fn log_as(work: Work, supply: Supply, line: u64, said: Line, out: &mut [u8; LINE]) -> Logged
+    ensures { λ r. ⌜ Logs (loggedAs (workPaper work) line (supplyPaper supply) (linePaper said))
         (now (out .entry)) (now (out .exit)) r ⌝ }
 {
     match said {
@@ -97,7 +99,7 @@ fn log_as(work: Work, supply: Record, line: u64, said: Line, out: &mut [u8; LINE
             log_lot(supply, line, closed, out)
         }
         Line::Order(byte) => {
-            let answer = severity::next(work, supply, byte);
+            let answer = supply::next(work, supply, byte);
             log_order(supply, line, answer, out)
         }
         Line::Unknown => {
@@ -109,7 +111,7 @@ fn log_as(work: Work, supply: Record, line: u64, said: Line, out: &mut [u8; LINE
 
 // Between pieces: the record, the number of the unfinished line, how many bytes of it came and those bytes.
 pub struct State {
-    pub supply: Record,
+    pub supply: Supply,
     pub line: u64,
     pub length: usize,
     pub bytes: [u8; LONGEST],
@@ -127,7 +129,7 @@ pub fn start(work: Work) -> State
     ensures { λ r. ⌜ Starts (workPaper work) r ⌝ }
 {
     State {
-        supply: severity::fresh(work),
+        supply: supply::fresh(work),
         line: 1,
         length: 0,
         bytes: [0u8; LONGEST],
@@ -137,7 +139,7 @@ pub fn start(work: Work) -> State
 // The unfinished line is finished.
 fn end_line(
     work: Work,
-    supply: Record,
+    supply: Supply,
     line: u64,
     bytes: &[u8],
     count: usize,

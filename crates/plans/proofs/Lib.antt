@@ -2,4 +2,5 @@ pub mod Arrows
 pub mod Letters
 pub mod Master
 pub mod OneResult
+pub mod Shares
 pub mod Standing

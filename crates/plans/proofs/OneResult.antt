@@ -5,6 +5,7 @@ use mathlib.Core.Path.{_≡_, refl, ap}
 use Rattle.rules.specs.Refusals.{Answer, refused, given}
 use Rattle.rules.specs.Verdict as rules
 use Rattle.rules.specs.Single as paper
+use Rattle.rules.specs.Fractional as fractional
 use Rattle.rules.proofs.Answers.{read-back}
 use Rattle.plans.specs.declared.SinglePlan.{SinglePlan}
 use Rattle.plans.specs.declared.Verdict.{Verdict}
@@ -15,10 +16,12 @@ use Rattle.plans.specs.declared.Outcome.the-variants as outcomes
 use Rattle.plans.specs.declared.VerdictAnswer.{VerdictAnswer}
 use Rattle.plans.specs.declared.VerdictAnswer.the-variants as verdicts
 use Rattle.plans.specs.declared.SinglePlanned.{SinglePlanned}
+use Rattle.plans.specs.declared.FractionalPlan.{FractionalPlan}
+use Rattle.plans.specs.declared.FractionalPlanned.{FractionalPlanned}
 use Rattle.plans.specs.declared.Asked.{Asked}
 use Rattle.plans.specs.Paper.{askedPaper}
 use Rattle.plans.specs.Paper.{planPaper, verdictPaper, letterPaper, verdictAnswer, Beside, outcomeOn}
-use Rattle.plans.specs.Paper.{plannedPaper}
+use Rattle.plans.specs.Paper.{plannedPaper, fractionalPaper, fractionalPlanned}
 
 pub letter-one : (a b : LetterAnswer) → letterPaper a ≡ letterPaper b → a ≡ b
 letter-one (letters.Refused n p) (letters.Refused m q) e = cc
@@ -74,3 +77,15 @@ planned-one = read-back plannedPaper plannedBack back
     back : (a : SinglePlanned) → plannedBack (plannedPaper a) ≡ a
     back a =
         ap (λ (o : Outcome). record { answer = o; plan = a .plan }) (outcome-back (a .answer) (planPaper (a .plan)))
+
+-- the same in the mode of fractions
+abbrev pub fractionalBack : fractional.FractionalPlan → FractionalPlan
+fractionalBack p = record { plan = planBack (p .plan); share = p .share }
+
+pub fraction-one : (a b : FractionalPlan) → fractionalPaper a ≡ fractionalPaper b → a ≡ b
+fraction-one a b e = ap fractionalBack e
+
+pub fractional-planned-one : (a b : FractionalPlanned) → fractionalPlanned a ≡ fractionalPlanned b → a ≡ b
+fractional-planned-one =
+    read-back fractionalPlanned (λ b. record { answer = outcomeBack (b .answer); plan = fractionalBack (b .plan) })
+    (λ a. ap (λ (o : Outcome). record { answer = o; plan = a .plan }) (outcome-back (a .answer) _))

@@ -13,9 +13,12 @@ use Rattle.plans.specs.declared.Outcome.the-variants as outcomes
 use Rattle.plans.specs.declared.VerdictAnswer.{VerdictAnswer}
 use Rattle.plans.specs.declared.VerdictAnswer.the-variants as verdicts
 use Rattle.plans.specs.declared.SinglePlanned.{SinglePlanned}
+use Rattle.plans.specs.declared.FractionalPlan.{FractionalPlan}
+use Rattle.plans.specs.declared.FractionalPlanned.{FractionalPlanned}
 use Rattle.rules.specs.Refusals.{Answer, refused, given}
 use Rattle.rules.specs.Verdict as rules
 use Rattle.rules.specs.Single as paper
+use Rattle.rules.specs.Fractional as fractional
 use Rattle.rules.specs.Entries as entries
 
 abbrev pub askedPaper : Asked → entries.Asked
@@ -75,3 +78,14 @@ zeroPlan = record { letter = 0; n = 0; ac = 0 }
 
 abbrev pub plannedPaper : SinglePlanned → Beside paper.Plan paper.Plan
 plannedPaper r = record { answer = outcomeOn (r .answer) (planPaper (r .plan)); plan = planPaper (r .plan) }
+
+-- the same in the mode of fractions
+abbrev pub fractionalPaper : FractionalPlan → fractional.FractionalPlan
+fractionalPaper p = fractional.planOfShare (planPaper (p .plan)) (p .share)
+
+abbrev pub zeroFractional : fractional.FractionalPlan
+zeroFractional = fractional.planOfShare zeroPlan 0
+
+abbrev pub fractionalPlanned : FractionalPlanned → Beside fractional.FractionalPlan fractional.FractionalPlan
+fractionalPlanned r =
+    record { answer = outcomeOn (r .answer) (fractionalPaper (r .plan)); plan = fractionalPaper (r .plan) }

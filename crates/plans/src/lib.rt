@@ -3,12 +3,14 @@
 ghost use mathlib.Core.Path.{_≡_};
 ghost use Prim.Native.Nat.{_+_, _-_, _≤_, _<_};
 ghost use lib.ListN.{getD};
-ghost use Rattle.rules.specs.Codes.{tableOne, above, rowOf, tableOneLetter};
-ghost use Rattle.rules.specs.Single.{rowAt, boxAt, landing, landingOf, cutTo, planAt, tighterAc};
-ghost use Rattle.rules.specs.Entries.{askedLetter, plainPlan};
-ghost use Rattle.rules.specs.Refusals.{refused};
+ghost use Rattle.rules.specs.Codes.{tableOne, above, rowOf, letterOf, tableOneLetter};
+ghost use Rattle.rules.specs.Single.{sizes, rowAt, boxAt, landing, landingOf, cutTo, planAt, tighterAc};
+ghost use Rattle.rules.specs.Fractional.{shareAt, ownPlan};
+ghost use Rattle.rules.specs.Entries.{askedLetter, plainPlan, inFractions};
+ghost use Rattle.rules.specs.Refusals.{refused, andThen};
 ghost use Rattle.plans.specs.Paper.{boxIn, rowPaper, arrowTo, askedPaper, planPaper, letterPaper};
-ghost use Rattle.plans.specs.Paper.{beside, itself, zeroPlan, plannedPaper};
+ghost use Rattle.plans.specs.Paper.{beside, itself, zeroPlan, plannedPaper, fractionalPaper, zeroFractional};
+ghost use Rattle.plans.specs.Paper.{fractionalPlanned};
 
 // The refusals of document 01 that a lot, its plan and its sample can meet.
 pub const UNKNOWN_FORM: u8 = 1;
@@ -41,6 +43,13 @@ const LAST_LEVEL: u32 = 6;
 pub const LAST_COLUMN: u32 = 25;
 // Up to this column each item is 0 or 1.
 pub const LAST_OF_ITEMS: u32 = 15;
+
+// Shares of one nonconforming item: none, where Ac is whole, one half, one third.
+const NO_SHARE: u8 = 0;
+
+const HALF: u8 = 2;
+
+const THIRD: u8 = 3;
 
 // Table 1: the last size of each row but the last ..
 const UP_TO: [u32; 14] = [
@@ -122,6 +131,12 @@ pub struct SinglePlan {
     pub ac: u16,
 }
 
+// A single plan in the mode of fractions: where the share is not 0, Ac is.
+pub struct FractionalPlan {
+    pub plan: SinglePlan,
+    pub share: u8,
+}
+
 // What judging a sample says; a sample that is not staged is one stage of one.
 pub struct Verdict {
     pub accepted: bool,
@@ -151,6 +166,11 @@ pub enum VerdictAnswer {
 pub struct SinglePlanned {
     pub answer: Outcome,
     pub plan: SinglePlan,
+}
+
+pub struct FractionalPlanned {
+    pub answer: Outcome,
+    pub plan: FractionalPlan,
 }
 
 fn row_of(size: u32) -> usize
@@ -313,15 +333,36 @@ pub fn cut_to(lot: u32, n: u16) -> u16
     n
 }
 
+// The size of a letter; past the last there is none.
+fn size_of(letter: u8) -> u16
+    ensures { λ r. ⌜ r ≡ getD sizes letter 0 ⌝ }
+{
+    let row = letter as usize;
+    if row < 17 {
+        return SIZES[row];
+    }
+    0
+}
+
 fn plan_from(severity: u32, size: u32, column: u32, letter: u8) -> SinglePlan
     requires { ⌜ (severity < 2) × (column < 26) × (letter < 16) ⌝ }
     ensures { λ r. ⌜ planPaper r ≡ planAt size (landingOf severity column letter) ⌝ }
 {
     let at = land(severity, column, letter, 15);
-    let row = at as usize;
-    let n = cut_to(size, SIZES[row]);
+    let n = cut_to(size, size_of(at));
     let ac = box_at(severity, column, at) as u16;
     SinglePlan { letter: at, n, ac }
+}
+
+// The plan of a letter's own box, with no arrow and Ac 0.
+fn own_plan(size: u32, letter: u8) -> SinglePlan
+    ensures { λ r. ⌜ planPaper r ≡ ownPlan size letter ⌝ }
+{
+    SinglePlan {
+        letter,
+        n: cut_to(size, size_of(letter)),
+        ac: 0,
+    }
 }
 
 // The plan beside a refusal.
@@ -358,6 +399,87 @@ pub fn table_plan(lot: Asked) -> SinglePlanned
                 answer: Outcome::Given,
                 plan: plan_from(lot.severity, lot.size, lot.column, first),
             }
+        }
+    }
+}
+
+// "normal s 15 is 1/3 and s 16 is 1/2; tightened s 16 is 1/3 and s 17 is 1/2".
+pub fn share_at(severity: u32, column: u32, letter: u8) -> u8
+    ensures { λ r. ⌜ r ≡ shareAt severity column letter ⌝ }
+{
+    let s = letter as u64 + column as u64;
+    match severity {
+        0 => match s {
+            15 => THIRD,
+            16 => HALF,
+            _ => NO_SHARE,
+        },
+        1 => match s {
+            16 => THIRD,
+            17 => HALF,
+            _ => NO_SHARE,
+        },
+        _ => NO_SHARE,
+    }
+}
+
+// The plan beside a refusal.
+pub fn no_fraction() -> FractionalPlan
+    ensures { λ r. ⌜ fractionalPaper r ≡ zeroFractional ⌝ }
+{
+    FractionalPlan {
+        plan: no_plan(),
+        share: NO_SHARE,
+    }
+}
+
+pub fn fractional_unplanned(number: u8, place: usize) -> FractionalPlanned
+    ensures { λ r. ⌜ fractionalPlanned r ≡ beside zeroFractional itself (refused number place) ⌝ }
+{
+    FractionalPlanned {
+        answer: Outcome::Refused(number, place),
+        plan: no_fraction(),
+    }
+}
+
+// The box at the lot's own letter: "6 when the column is over 15 and the box is fractional"; else as ever.
+fn in_fractions(lot: Asked, letter: u8) -> FractionalPlanned
+    requires { ⌜ (lot .severity < 2) × (lot .column < 26) × (letter < 16)
+        × (letter ≡ letterOf (lot .size) (lot .level)) ⌝ }
+    ensures { λ r. ⌜ fractionalPlanned r
+        ≡ beside zeroFractional itself (inFractions (askedPaper lot)
+        (planAt (lot .size) (landingOf (lot .severity) (lot .column) letter))) ⌝ }
+{
+    let share = share_at(lot.severity, lot.column, letter);
+    if share == NO_SHARE {
+        let plan = plan_from(lot.severity, lot.size, lot.column, letter);
+        return FractionalPlanned {
+            answer: Outcome::Given,
+            plan: FractionalPlan { plan, share },
+        };
+    }
+    if LAST_OF_ITEMS < lot.column {
+        return fractional_unplanned(NO_PLAN, 0);
+    }
+    let plan = own_plan(lot.size, letter);
+    FractionalPlanned {
+        answer: Outcome::Given,
+        plan: FractionalPlan { plan, share },
+    }
+}
+
+// The single plan of a bench without a book, in the mode of fractions.
+pub fn fractional_table_plan(lot: Asked) -> FractionalPlanned
+    ensures { λ r. ⌜ fractionalPlanned r
+        ≡ beside zeroFractional itself (andThen (plainPlan (askedPaper lot)) (inFractions (askedPaper lot))) ⌝ }
+{
+    match asked_letter(lot) {
+        LetterAnswer::Refused(number, place) => fractional_unplanned(number, place),
+        LetterAnswer::Given(letter) => {
+            if lot.severity == REDUCED {
+                return fractional_unplanned(NO_PLAN, 0);
+            }
+            in_fractions(lot, letter)
         }
     }
 }

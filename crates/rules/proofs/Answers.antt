@@ -20,6 +20,18 @@ pub then-given : {A B : Type 0} (a : Answer A) (next : A → Answer B) (b : B) �
 then-given (refused n p) next b e = absurd (refused-given e)
 then-given (given x) next b e = (x, refl, e)
 
+-- what goes on alike ends alike
+pub then-alike : {A B : Type 0} {next later : A → Answer B} (a : Answer A) → ((x : A) → next x ≡ later x)
+    → andThen a next ≡ andThen a later
+then-alike (refused n p) h = refl
+then-alike (given x) h = h x
+
+-- three answers in a row, however they are taken together
+pub then-then : {A B C : Type 0} (a : Answer A) (next : A → Answer B) (last : B → Answer C)
+    → andThen (andThen a next) last ≡ andThen a (λ x. andThen (next x) last)
+then-then (refused n p) next last = refl
+then-then (given x) next last = refl
+
 pub placed-given : {A : Type 0} (k : ℕ) (a : Answer A) (x : A) → placed k a ≡ given x → a ≡ given x
 placed-given k (refused n p) x e = absurd (refused-given e)
 placed-given k (given a) x e = e

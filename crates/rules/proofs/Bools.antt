@@ -26,3 +26,9 @@ true-unless false f = absurd (f refl)
 pub false-unless : (b : Bool) → (b ≡ true → ⊥) → b ≡ false
 false-unless true f = absurd (f refl)
 false-unless false f = refl
+
+-- two tests that pass together are one
+pub same-truth : (a b : Bool) → (a ≡ true → b ≡ true) → (b ≡ true → a ≡ true) → a ≡ b
+same-truth true b f g = sym (f refl)
+same-truth false true f g = g refl
+same-truth false false f g = refl

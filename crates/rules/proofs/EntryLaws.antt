@@ -12,13 +12,14 @@ use borrow.Author.Tests.{ltb-true, ltb-false, lt-ltb, le-ltb, eqb-true, eq-eqb, 
 use lib.Dec.{ltb, eqb}
 use Rattle.rules.specs.Refusals.{Answer, given, _gives_, firstOf, andThen, noPlan, unknownForm}
 use Rattle.rules.specs.Verdict.{Verdict}
-use Rattle.rules.specs.Severity.{Lot, sampled, lot, resubmitted, Record, step, onLot, onResubmitted}
-use Rattle.rules.specs.Severity.{inRange}
+use Rattle.rules.specs.Severity.{Lot, Origin, Event, lot, resubmitted, Record, step, onLot, onResubmitted}
+use Rattle.rules.specs.Supply.{Supply, lotOn, countsOn, move, supplyInRange}
 use Rattle.rules.specs.Book.{Checked, sound, brokenAt, checkBook, onSound, Found, found, nothing}
-use Rattle.rules.specs.Entries.{Asked, askedChecks, lookedUp, fromEntry, unlessAbove, judgedOn, onRecord, Closed}
+use Rattle.rules.specs.Entries.{Asked, askedChecks, lookedUp, fromEntry, unlessAbove, judgedOn, onSupply, Closed}
 use Rattle.rules.specs.Entries.{Offered, eventFor, closedWith, Lettered, lettered}
 use Rattle.rules.specs.Codes.{letterOf}
 use Rattle.rules.proofs.Answers.{refused-given, given-one, then-given}
+use Rattle.rules.proofs.Moving.{move-took, took-moves}
 use Rattle.rules.proofs.LookUp.{broken-unsound}
 use Rattle.rules.proofs.Checks.{plannable}
 use Rattle.rules.proofs.Refusals.{check, stops, nothing-wrong}
@@ -26,7 +27,7 @@ use Rattle.rules.proofs.Refusals.{chain, goes-on, first-given}
 use Rattle.rules.specs.Verdict.{Judged}
 use Rattle.rules.specs.Reporting.{NoRow, Reports, Row, Then}
 pub use Rattle.rules.specs.Reporting.{OnBook}
-use Rattle.rules.specs.Planning.{Closes, LotRows, NoPlan, Plannable, Supplies, above, no-entry}
+use Rattle.rules.specs.Planning.{Closes, LotRows, NoPlan, Plannable, Supplies, Took, above, no-entry}
 
 pub lot-reports : {A : Type 0} {more : ℕ → Type 0} {rest : Answer A} (q : Asked) → Reports 6 more rest
     → Reports 1 (LotRows q more) (firstOf (askedChecks q) rest)
@@ -203,58 +204,83 @@ lot-on (suc (suc zero)) l r h = (_, refl)
 lot-on (suc (suc (suc s))) l r h = absurd (omega arith)
 
 -- A lot closed under a severity that is not stopped is always taken into the record.
-pub lot-steps : (r : Record) (o : Offered) (l : Lot) → r .severity < 3
-    → (t : Record) × (step r (eventFor o l) ≡ given t)
-unfolding step onResubmitted
-lot-steps r o l h = on (o .again)
+pub lot-moves : (s : Supply) (o : Offered) (from : Origin) (l : Lot) → s .switching .severity < 3
+    → (t : Supply) × (move s (eventFor o from l) ≡ given t)
+unfolding move step onResubmitted
+lot-moves s o from l h = on (o .again)
   where
-    on : (again : Bool) → (t : Record) × (step r (cond again resubmitted (lot sampled l)) ≡ given t)
-    on true = (r, rw (lt-leb 3 (r .severity) h))
-    on false = lot-on (r .severity) l r h
+    some : (a : Answer Record) (f : Record → Supply) (r : Record) → a ≡ given r
+        → (t : Supply) × (andThen a (λ x. given (f x)) ≡ given t)
+    some a f r e = (f r, rw e)
 
--- A lot that is closed: its record, how it is judged, and then the step.
-module _ {P : Type 0} (r : Record) (o : Offered) (judged : Answer (Judged P Verdict))
-    (counts : Judged P Verdict → Lot) where
-  pub closing-reports : {Wrong : ℕ → Type 0} → Reports 1 Wrong judged
-      → ((j : Judged P Verdict) → judged ≡ given j → r .severity < 3)
-      → Reports 1 (Row 1 (inRange r ≡ false) Wrong) (onRecord r (andThen judged (closedWith r o counts)))
-  closing-reports s inspected =
-      check 1 (not (inRange r)) (not-true (inRange r)) (λ e. ap not e) (le-refl 1)
-      (goes-on judged s
-      (λ j e.
-      let t = lot-steps r o (counts j) (inspected j e) in
-      (record { judged = j; event = eventFor o (counts j); recordAfter = t .0 }, rw (t .1))))
+    on : (again : Bool) → (t : Supply) × (move s (cond again resubmitted (lot from l)) ≡ given t)
+    on true =
+        let q : step (s .switching) resubmitted ≡ given (s .switching) = rw (lt-leb 3 (s .switching .severity) h) in
+        some _ _ (s .switching) q
+    on false =
+        let t = lot-on (s .switching .severity) (lotOn (s .switching .severity) (s .clean) from l) (s .switching) h in
+        some _ _ (t .0) (t .1)
 
-  pub closing-given : (c : Closed P)
-      → (onRecord r (andThen judged (closedWith r o counts)) ≡ given c) ↔ Closes r o judged counts c
-  closing-given c = (so, λ k. rw (ap not (k .in-range), k .as-judged, ← k .stands, k .stepped))
+-- A lot that is closed: its record, how it is judged, and then what its event makes of the record.
+module _ {P : Type 0} (s : Supply) (judged : Answer (Judged P Verdict)) (event : Judged P Verdict → Event) where
+  abbrev Taken : Type 0
+  Taken = (j : Judged P Verdict) → judged ≡ given j → (t : Supply) × (move s (event j) ≡ given t)
+
+  pub closing-reports : {Wrong : ℕ → Type 0} → Reports 1 Wrong judged → Taken
+      → Reports 1 (Row 1 (supplyInRange s ≡ false) Wrong) (onSupply s (andThen judged (closedWith s event)))
+  closing-reports r taken =
+      check 1 (not (supplyInRange s)) (not-true (supplyInRange s)) (λ e. ap not e) (le-refl 1)
+      (goes-on judged r
+      (λ j e. let t = taken j e in (record { judged = j; event = event j; supplyAfter = t .0 }, rw (t .1))))
+
+  -- every event that is told counts as it stands
+  abbrev Settled : Type 0
+  Settled = (j : Judged P Verdict) → judged ≡ given j → countsOn s (event j) ≡ event j
+
+  pub closing-given : Settled → (c : Closed P)
+      → (onSupply s (andThen judged (closedWith s event)) ≡ given c) ↔ Closes s judged event c
+  closing-given settled c = (so, back)
     where
-      so : onRecord r (andThen judged (closedWith r o counts)) ≡ given c → Closes r o judged counts c
+      counts : (k : Closed P) → judged ≡ given (k .judged) → k .event ≡ event (k .judged)
+          → countsOn s (k .event) ≡ k .event
+      counts k j e = ap (countsOn s) e ∙ settled (k .judged) j ∙ sym e
+
+      back : Closes s judged event c → onSupply s (andThen judged (closedWith s event)) ≡ given c
+      back k =
+          let t : Took s (countsOn s (c .event)) (c .supplyAfter) =
+          rw (counts c (k .as-judged) (k .stands)) (k .took) in
+          rw (ap not (k .in-range), k .as-judged, ← k .stands, took-moves s (c .event) (c .supplyAfter) t)
+
+      so : onSupply s (andThen judged (closedWith s event)) ≡ given c → Closes s judged event c
       so g =
-          let h = first-given ((not (inRange r) gives unknownForm) ∷ []) _ c .0 g in
-          let j = then-given judged (closedWith r o counts) c (h .1) in
-          let t = then-given (step r (eventFor o (counts (j .0)))) _ c (j .2) in
-          let e : record { judged = j .0; event = eventFor o (counts (j .0)); recordAfter = t .0 } ≡ c =
-          given-one (t .2) in
+          let h = first-given ((not (supplyInRange s) gives unknownForm) ∷ []) _ c .0 g in
+          let j = then-given judged (closedWith s event) c (h .1) in
+          let t = then-given (move s (event (j .0))) _ c (j .2) in
+          let e : record { judged = j .0; event = event (j .0); supplyAfter = t .0 } ≡ c = given-one (t .2) in
+          let f = j .1 ∙ ap (λ (k : Closed P). given (k .judged)) e in
+          let g : c .event ≡ event (c .judged) = subst (λ (k : Closed P). k .event ≡ event (k .judged)) e refl in
           record {
-            in-range = not-false (inRange r) (h .0 .0);
-            as-judged = j .1 ∙ ap (λ (k : Closed P). given (k .judged)) e;
-            stands = subst (λ (k : Closed P). k .event ≡ eventFor o (counts (k .judged))) e refl;
-            stepped = subst (λ (k : Closed P). step r (k .event) ≡ given (k .recordAfter)) e (t .1);
+            in-range = not-false (supplyInRange s) (h .0 .0);
+            as-judged = f;
+            stands = g;
+            as-told = counts c f g;
+            took =
+                rw (counts c f g) at
+                (move-took s (c .event) (c .supplyAfter)
+                (subst (λ (k : Closed P). move s (k .event) ≡ given (k .supplyAfter)) e (t .1)));
           }
 
-  pub closing-on-book : {Wrong : ℕ → Type 0} (book : List ℕ) → OnBook book Wrong judged
-      → ((j : Judged P Verdict) → judged ≡ given j → r .severity < 3)
-      → OnBook book (Row 1 (inRange r ≡ false) Wrong)
-      (onSound (checkBook book) (onRecord r (andThen judged (closedWith r o counts))))
-  closing-on-book book b inspected =
-      record { broken = λ byte e. rw e; else = λ e. rw e (closing-reports (b .else e) inspected) }
+  pub closing-on-book : {Wrong : ℕ → Type 0} (book : List ℕ) → OnBook book Wrong judged → Taken
+      → OnBook book (Row 1 (supplyInRange s ≡ false) Wrong)
+      (onSound (checkBook book) (onSupply s (andThen judged (closedWith s event))))
+  closing-on-book book b taken =
+      record { broken = λ byte e. rw e; else = λ e. rw e (closing-reports (b .else e) taken) }
 
-  pub closing-book-given : (book : List ℕ) → ((j : Judged P Verdict) → judged ≡ given j → checkBook book ≡ sound)
-      → (c : Closed P)
-      → (onSound (checkBook book) (onRecord r (andThen judged (closedWith r o counts))) ≡ given c)
-      ↔ Closes r o judged counts c
-  closing-book-given book judged-sound c = (
-    λ g. closing-given c .0 (sound-given (checkBook book) _ c .0 g .1),
-    λ k. sound-given (checkBook book) _ c .1 (judged-sound (c .judged) (k .as-judged), closing-given c .1 k),
+  pub closing-book-given : Settled → (book : List ℕ)
+      → ((j : Judged P Verdict) → judged ≡ given j → checkBook book ≡ sound) → (c : Closed P)
+      → (onSound (checkBook book) (onSupply s (andThen judged (closedWith s event))) ≡ given c)
+      ↔ Closes s judged event c
+  closing-book-given settled book judged-sound c = (
+    λ g. closing-given settled c .0 (sound-given (checkBook book) _ c .0 g .1),
+    λ k. sound-given (checkBook book) _ c .1 (judged-sound (c .judged) (k .as-judged), closing-given settled c .1 k),
   )

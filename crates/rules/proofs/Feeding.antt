@@ -8,7 +8,7 @@ use mathlib.Core.List.{List, [], _∷_, _++_, append-nil, append-assoc, flatten}
 use lib.Dec.{leb, ltb, eqb}
 use lib.ListN.{length, take, drop, length-append, length-drop, take-append-drop}
 use borrow.Author.Tests.{ltb-true, ltb-false, leb-false, le-leb, lt-leb, ne-eqb}
-use Rattle.rules.specs.Severity.{Record, fresh}
+use Rattle.rules.specs.Supply.{Supply, freshSupply}
 use Rattle.rules.specs.History.{Work}
 use Rattle.rules.specs.Log.{splitAt, newline, space, droppingEmptyLast, lineOf, Logged, loggedLine}
 use Rattle.rules.specs.Log.{lineAfter, logFrom, header, log}
@@ -78,54 +78,54 @@ keeps-more [] m ms = refl
 keeps-more (b ∷ bs) m ms = refl
 
 -- what a line prints, however it is held
-ended-as : (w : Work) (r : Record) (n : ℕ) (l : List ℕ) → ended w (holding r n (begunBy l)) ≡ loggedLine w n r l
-ended-as w r n l = rw (begun-read w l) refl
+ended-as : (w : Work) (s : Supply) (n : ℕ) (l : List ℕ) → ended w (holding s n (begunBy l)) ≡ loggedLine w n s l
+ended-as w s n l = rw (begun-read w l) refl
 
-finished-as : (w : Work) (r : Record) (n : ℕ) (l : List ℕ)
-    → finished w (holding r n (begunBy l)) ≡ logFrom w n r (droppingEmptyLast (l ∷ []))
+finished-as : (w : Work) (s : Supply) (n : ℕ) (l : List ℕ)
+    → finished w (holding s n (begunBy l)) ≡ logFrom w n s (droppingEmptyLast (l ∷ []))
 unfolding logFrom droppingEmptyLast
-finished-as w r n [] = refl
-finished-as w r n (b ∷ bs) =
-    go (leb (length (b ∷ bs)) longestLine) refl ∙ ap (λ z. z .text) (ended-as w r n (b ∷ bs))
-    ∙ sym (append-nil (loggedLine w n r (b ∷ bs) .text))
+finished-as w s n [] = refl
+finished-as w s n (b ∷ bs) =
+    go (leb (length (b ∷ bs)) longestLine) refl ∙ ap (λ z. z .text) (ended-as w s n (b ∷ bs))
+    ∙ sym (append-nil (loggedLine w n s (b ∷ bs) .text))
   where
     go : (t : Bool) → leb (length (b ∷ bs)) longestLine ≡ t
-        → finished w (holding r n (begunBy (b ∷ bs))) ≡ ended w (holding r n (begunBy (b ∷ bs))) .text
+        → finished w (holding s n (begunBy (b ∷ bs))) ≡ ended w (holding s n (begunBy (b ∷ bs))) .text
     go true e = simp (e, ne-eqb (suc (length bs)) 0 (λ q. omega arith))
     go false e = simp e
 
-onwards-lines : (w : Work) (r : Record) (n : ℕ) (l input : List ℕ)
-    → onwards w (holding r n (begunBy l)) input
-    ≡ logFrom w n r (droppingEmptyLast ((l ++ upTo newline input) ∷ restAt newline input))
+onwards-lines : (w : Work) (s : Supply) (n : ℕ) (l input : List ℕ)
+    → onwards w (holding s n (begunBy l)) input
+    ≡ logFrom w n s (droppingEmptyLast ((l ++ upTo newline input) ∷ restAt newline input))
 unfolding onwards upTo restAt logFrom
-onwards-lines w r n l [] = finished-as w r n l ∙ rw (append-nil l) refl
-onwards-lines w r n l (b ∷ bs) =
+onwards-lines w s n l [] = finished-as w s n l ∙ rw (append-nil l) refl
+onwards-lines w s n l (b ∷ bs) =
     go (eqb b newline) refl
-    (onwards-lines w (loggedLine w n r l .held) (lineAfter n) [] bs)
-    (onwards-lines w r n (l ++ (b ∷ [])) bs)
+    (onwards-lines w (loggedLine w n s l .held) (lineAfter n) [] bs)
+    (onwards-lines w s n (l ++ (b ∷ [])) bs)
   where
     go : (t : Bool) → eqb b newline ≡ t
-        → onwards w (holding (loggedLine w n r l .held) (lineAfter n) (soFar [])) bs
-        ≡ logFrom w (lineAfter n) (loggedLine w n r l .held)
+        → onwards w (holding (loggedLine w n s l .held) (lineAfter n) (soFar [])) bs
+        ≡ logFrom w (lineAfter n) (loggedLine w n s l .held)
         (droppingEmptyLast (upTo newline bs ∷ restAt newline bs))
-        → onwards w (holding r n (begunBy (l ++ (b ∷ [])))) bs
-        ≡ logFrom w n r (droppingEmptyLast (((l ++ (b ∷ [])) ++ upTo newline bs) ∷ restAt newline bs))
-        → onwards w (holding r n (begunBy l)) (b ∷ bs)
-        ≡ logFrom w n r (droppingEmptyLast ((l ++ upTo newline (b ∷ bs)) ∷ restAt newline (b ∷ bs)))
+        → onwards w (holding s n (begunBy (l ++ (b ∷ [])))) bs
+        ≡ logFrom w n s (droppingEmptyLast (((l ++ (b ∷ [])) ++ upTo newline bs) ∷ restAt newline bs))
+        → onwards w (holding s n (begunBy l)) (b ∷ bs)
+        ≡ logFrom w n s (droppingEmptyLast ((l ++ upTo newline (b ∷ bs)) ∷ restAt newline (b ∷ bs)))
     go true e ends h =
         simp e
-        (ap (λ (z : Logged). z .text ++ onwards w (holding (z .held) (lineAfter n) (soFar [])) bs) (ended-as w r n l)
-        ∙ ap (λ (z : List ℕ). loggedLine w n r l .text ++ z) ends
+        (ap (λ (z : Logged). z .text ++ onwards w (holding (z .held) (lineAfter n) (soFar [])) bs) (ended-as w s n l)
+        ∙ ap (λ (z : List ℕ). loggedLine w n s l .text ++ z) ends
         ∙ sym
-        (ap (λ (z : List (List ℕ)). logFrom w n r (droppingEmptyLast z))
+        (ap (λ (z : List (List ℕ)). logFrom w n s (droppingEmptyLast z))
         (ap (λ (z : List ℕ). z ∷ splitAt newline bs) (append-nil l)
         ∙ ap (λ (z : List (List ℕ)). l ∷ z) (split-first newline bs))
-        ∙ ap (logFrom w n r) (keeps-more l (upTo newline bs) (restAt newline bs))))
+        ∙ ap (logFrom w n s) (keeps-more l (upTo newline bs) (restAt newline bs))))
     go false e ends h =
         simp e
-        (ap (λ (z : Begun). onwards w (holding r n z) bs) (begun-more l b)
+        (ap (λ (z : Begun). onwards w (holding s n z) bs) (begun-more l b)
         ∙ h
-        ∙ ap (λ (z : List ℕ). logFrom w n r (droppingEmptyLast (z ∷ restAt newline bs)))
+        ∙ ap (λ (z : List ℕ). logFrom w n s (droppingEmptyLast (z ∷ restAt newline bs)))
         (append-assoc l (b ∷ []) (upTo newline bs)))
 
 -- from the start: the whole log
@@ -133,9 +133,10 @@ pub all-onwards : (w : Work) (input : List ℕ) → header ++ onwards w (startin
 unfolding log
 all-onwards w input =
     ap (λ (z : List ℕ). header ++ z)
-    (onwards-lines w (fresh (w .permission)) 1 [] input
+    (onwards-lines w (freshSupply (w .permission)) 1 [] input
     ∙ sym
-    (ap (λ (z : List (List ℕ)). logFrom w 1 (fresh (w .permission)) (droppingEmptyLast z)) (split-first newline input)))
+    (ap (λ (z : List (List ℕ)). logFrom w 1 (freshSupply (w .permission)) (droppingEmptyLast z))
+    (split-first newline input)))
 
 -- However the input is cut, and however often each piece is offered: the whole output is the log of the bytes taken.
 pub any-calls : (w : Work) (ps : List (List ℕ))

@@ -17,7 +17,8 @@ use Rattle.rules.specs.Book.{variablesOf, couldHold}
 use Rattle.rules.specs.Book.{keyOf, keyFor}
 use Rattle.rules.specs.Numbers.{numbersOf, sumOf}
 use Rattle.rules.specs.Layout.{EntryIn}
-use Rattle.rules.specs.Single.{Plan, sizes, cutTo, tablePlan, landing, landingOf, boxAt}
+use Rattle.rules.specs.Single.{Plan, sizes, cutTo, tablePlan, landed, landing, landingOf, planAt, boxAt}
+use Rattle.rules.specs.Fractional.{FractionalPlan}
 use Rattle.rules.specs.Verdict.{Verdict, goesOn}
 use Rattle.rules.specs.Staged.{StagedPlan, stagesOf, totalSize, stageAt, stageDecides}
 use Rattle.rules.specs.Sequential.{SequentialPlan, judgeSequence}
@@ -25,10 +26,12 @@ use Rattle.rules.specs.Variables.{VariablesPlan}
 use Rattle.rules.specs.Entries.{Asked, stagedPlan, sequentialPlan}
 use Rattle.rules.specs.Entries.{variablesPlan, variablesEntry, stagedSection}
 use Rattle.rules.specs.Entries.{reducedSection, sequentialSection, variablesSection, singlePlan}
-use Rattle.rules.specs.Entries.{reducedPlan}
+use Rattle.rules.specs.Entries.{reducedPlan, inFractions, fractionalPlan}
 use Rattle.rules.specs.Judging.{sizeOfFirst}
 use Rattle.rules.specs.Planning.{Plannable, UnderKey, SinglePlanned, Supplies}
 use Rattle.rules.specs.PlanRules.{Held}
+use Rattle.rules.proofs.Answers.{then-given}
+use Rattle.rules.proofs.Fractions.{InMode, whole, fraction, in-mode}
 use Rattle.rules.proofs.Bounded.{by-le, all, all-at, all-at₃, both-left, both-right}
 use Rattle.rules.proofs.Tables.{letter-within, landing-letter}
 use Rattle.rules.proofs.Deciding.{never-runs-out, never-past, sequence-decided}
@@ -153,21 +156,27 @@ ac-all : T (all 2 (λ severity. all 26 (λ column. all 16 (acBelow severity colu
 unfolding acBelow landing boxAt
 ac-all = tt
 
+-- a plan at a letter, cut to the lot
+letter-right : (size letter ac : ℕ) → 2 ≤ size → letter < 17 → ac ≤ 65534 → SingleRight (planAt size (landed letter ac))
+unfolding sized
+letter-right size letter ac z l low =
+    let t = all-at 17 sized sized-all letter l in
+    cut-right size (omega arith) (record { letter = letter; n = getD sizes letter 0; ac = ac })
+    (record {
+      some = leb→le 1 (getD sizes letter 0) (both-left (leb 1 (getD sizes letter 0)) _ t);
+      few = leb→le (getD sizes letter 0) 3150 (both-right (leb 1 (getD sizes letter 0)) _ t);
+      ac = low;
+    })
+
 table-right : (q : Asked) → q .severity < 2 → 2 ≤ q .size → q .column < 26
     → SingleRight (tablePlan (q .severity) (q .size) (q .level) (q .column))
-unfolding tablePlan sized acBelow
+unfolding tablePlan acBelow
 table-right q s z c =
     let letter : ℕ = letterOf (q .size) (q .level) in
     let l : letter < 16 = letter-within (q .size) (q .level) in
-    let at : ℕ = landingOf (q .severity) (q .column) letter .letter in
-    let t = all-at 17 sized sized-all at (landing-letter (q .severity) (q .column) letter s c l) in
-    cut-right (q .size) (omega arith)
-    (record { letter = at; n = getD sizes at 0; ac = landingOf (q .severity) (q .column) letter .ac })
-    (record {
-      some = leb→le 1 (getD sizes at 0) (both-left (leb 1 (getD sizes at 0)) _ t);
-      few = leb→le (getD sizes at 0) 3150 (both-right (leb 1 (getD sizes at 0)) _ t);
-      ac = leb→le _ 65534 (all-at₃ 2 26 16 acBelow ac-all (q .severity) (q .column) letter s c l);
-    })
+    letter-right (q .size) (landingOf (q .severity) (q .column) letter .letter)
+    (landingOf (q .severity) (q .column) letter .ac) z (landing-letter (q .severity) (q .column) letter s c l)
+    (leb→le _ 65534 (all-at₃ 2 26 16 acBelow ac-all (q .severity) (q .column) letter s c l))
 
 -- a single plan, of a table or of the book
 pub single-given : (q : Asked) (book : List ℕ) (p : Plan) → singlePlan q book ≡ given p
@@ -188,6 +197,22 @@ single-given q book p h = go (eqb (q .severity) reduced) refl
         let low : q .severity < 2 =
         by-le 2 (q .severity) (λ l. absurd (other (omega (arith, s .lot .severity)))) (λ l. l) in
         rw (← s .from-tables other) (table-right q low (s .lot .size) (s .lot .column))
+
+-- .. and in the mode of fractions
+pub fractional-given : (q : Asked) (book : List ℕ) (p : FractionalPlan) → fractionalPlan q book ≡ given p
+    → SingleRight (p .plan)
+unfolding fractionalPlan
+fractional-given q book p h =
+    let x = then-given (singlePlan q book) (inFractions q) p h in
+    go (single-given q book (x .0) (x .1)) (single-plan-given q book (x .0) .0 (x .1) .lot .size)
+    (in-mode q (x .0) p (x .2))
+  where
+    go : {plan : Plan} → SingleRight plan → 2 ≤ q .size → InMode q plan p → SingleRight (p .plan)
+    go r z (whole none e) = rw (← e) r
+    go r z (fraction own few e) =
+        rw (← e)
+        (letter-right (q .size) (letterOf (q .size) (q .level)) 0 z
+        (omega (arith, letter-within (q .size) (q .level))) (omega arith))
 
 cut-within : (lot n : ℕ) → cutTo lot n ≤ lot
 cut-within lot n = go (leb lot n) refl

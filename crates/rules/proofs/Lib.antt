@@ -6,6 +6,7 @@ pub mod Bounded
 pub mod Bytes
 pub mod Cases
 pub mod Checks
+pub mod CleanRuns
 pub mod Decimals
 pub mod Deciding
 pub mod Demands
@@ -14,6 +15,8 @@ pub mod EntryLaws
 pub mod EventLaws
 pub mod Faults
 pub mod Feeding
+pub mod FractionRuns
+pub mod Fractions
 pub mod GivenPlans
 pub mod HeldPlans
 pub mod HeldStaged
@@ -24,6 +27,7 @@ pub mod Leaving
 pub mod LineForms
 pub mod LogRuns
 pub mod LookUp
+pub mod Moving
 pub mod Numbers
 pub mod Orders
 pub mod Parts
@@ -45,6 +49,7 @@ pub mod StagedExactly
 pub mod Stays
 pub mod Steps
 pub mod Stored
+pub mod Supplies
 pub mod Switches
 pub mod Tables
 pub mod Terminal
@@ -52,3 +57,4 @@ pub mod Walks
 pub mod Window
 pub mod Worked
 pub mod WorkedBooks
+pub mod WorkedFractions

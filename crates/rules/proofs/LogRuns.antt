@@ -6,25 +6,24 @@ use mathlib.Core.Path.{_≡_, refl, sym, ap, _∙_}
 use mathlib.Core.List.{List, [], _∷_, _++_, append-assoc}
 use Rattle.rules.specs.Refusals.{Answer, refused, given}
 use Rattle.rules.specs.Single.{Plan}
-use Rattle.rules.specs.Severity.{Record}
-use Rattle.rules.specs.Reading.{recordRead}
+use Rattle.rules.specs.Supply.{Supply}
+use Rattle.rules.specs.CleanReading.{supplyRead}
 use Rattle.rules.specs.History.{Work, eventIn}
 use Rattle.rules.specs.Entries.{Closed, closeTotal, next}
 use Rattle.rules.specs.Log.{Line, lotLine, orderLine, unknownLine, splitAt, space, lineOf, loggedLot}
 use Rattle.rules.specs.Log.{loggedOrder, loggedAs, loggedLine, lineAfter, logFrom, header, linesOf, log}
-use Rattle.rules.specs.Runs.{Call, enteredBy, enteredAs, entered, recordBy, ran, eventsRan, eventsRead}
+use Rattle.rules.specs.Runs.{Call, enteredBy, enteredAs, entered, supplyBy, ran, eventsRead}
 use Rattle.rules.specs.LogRuns.{callsBy, callsWith, callsAfter, heldFrom, lineFrom, logRead}
-use Rattle.rules.proofs.Agreement.{agree}
-use Rattle.rules.proofs.Runs.{ran-agrees, events-as-read}
+use Rattle.rules.proofs.Runs.{ran-as-read, events-as-read}
 
-lot-held : (line : ℕ) (r : Record) (a : Answer (Closed Plan)) → loggedLot line r a .held ≡ recordBy r (enteredBy a)
-lot-held line r (refused n p) = refl
-lot-held line r (given c) = refl
+lot-held : (line : ℕ) (s : Supply) (a : Answer (Closed Plan)) → loggedLot line s a .held ≡ supplyBy s (enteredBy a)
+lot-held line s (refused n p) = refl
+lot-held line s (given c) = refl
 
-order-held : (w : Work) (b line : ℕ) (r : Record) (a : Answer Record)
-    → loggedOrder line r a .held ≡ recordBy r (enteredAs (eventIn w b) a)
-order-held w b line r (refused n p) = refl
-order-held w b line r (given t) = refl
+order-held : (w : Work) (b line : ℕ) (s : Supply) (a : Answer Supply)
+    → loggedOrder line s a .held ≡ supplyBy s (enteredAs (eventIn w b) a)
+order-held w b line s (refused n p) = refl
+order-held w b line s (given t) = refl
 
 -- one line, on the record of the calls so far
 line-held : (w : Work) (line : ℕ) (cs : List Call) (l : Line)
@@ -40,22 +39,21 @@ pub held-ran : (w : Work) (line : ℕ) (cs : List Call) (ls : List (List ℕ))
 unfolding heldFrom callsAfter
 held-ran w line cs [] = refl
 held-ran w line cs (l ∷ ls) =
-    ap (λ (r : Record). heldFrom w (lineAfter line) r ls) (line-held w line cs (lineOf w (splitAt space l)))
+    ap (λ (s : Supply). heldFrom w (lineAfter line) s ls) (line-held w line cs (lineOf w (splitAt space l)))
     ∙ held-ran w (lineAfter line) (callsWith w l cs) ls
 
 -- It is what later lines are answered on.
-pub log-goes-on : (w : Work) (line : ℕ) (r : Record) (ls later : List (List ℕ))
-    → logFrom w line r (ls ++ later) ≡ logFrom w line r ls ++ logFrom w (lineFrom line ls) (heldFrom w line r ls) later
+pub log-goes-on : (w : Work) (line : ℕ) (s : Supply) (ls later : List (List ℕ))
+    → logFrom w line s (ls ++ later) ≡ logFrom w line s ls ++ logFrom w (lineFrom line ls) (heldFrom w line s ls) later
 unfolding logFrom heldFrom lineFrom
-log-goes-on w line r [] later = refl
-log-goes-on w line r (l ∷ ls) later =
-    rw (log-goes-on w (lineAfter line) (loggedLine w line r l .held) ls later, append-assoc)
+log-goes-on w line s [] later = refl
+log-goes-on w line s (l ∷ ls) later =
+    rw (log-goes-on w (lineAfter line) (loggedLine w line s l .held) ls later, append-assoc)
 
 -- The record of a run is the written reading's, of the events found from the reading alone.
-ran-read : (w : Work) (cs : List Call) → ran w cs ≡ recordRead (w .permission) (eventsRead w cs)
+ran-read : (w : Work) (cs : List Call) → ran w cs ≡ supplyRead (w .permission) (eventsRead w cs)
 ran-read w cs =
-    agree (w .permission) (eventsRan w cs) (ran w cs) (ran-agrees w cs)
-    ∙ ap (recordRead (w .permission)) (sym (events-as-read w cs))
+    ran-as-read w cs ∙ ap (supplyRead (w .permission)) (sym (events-as-read w cs))
 
 -- Each line is answered on the record that the written reading finds.
 pub log-read : (w : Work) (line : ℕ) (cs : List Call) (ls : List (List ℕ))
@@ -64,7 +62,7 @@ unfolding logFrom logRead
 log-read w line cs [] = refl
 log-read w line cs (l ∷ ls) =
     rw (line-held w line cs (lineOf w (splitAt space l)), log-read w (lineAfter line) (callsWith w l cs) ls)
-    (ap (λ (r : Record). loggedLine w line r l .text ++ logRead w (lineAfter line) (callsWith w l cs) ls)
+    (ap (λ (s : Supply). loggedLine w line s l .text ++ logRead w (lineAfter line) (callsWith w l cs) ls)
     (ran-read w cs))
 
 -- the whole output for a whole input

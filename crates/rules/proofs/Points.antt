@@ -15,12 +15,14 @@ use Rattle.rules.specs.Single.{Plan, tablePlan, landing, boxAt, tighterA
 use Rattle.rules.specs.Staged.{StagedPlan, stagesFrom, totalSize, stageDecides, takeItems, stagedFrom}
 use Rattle.rules.specs.Staged.{judgeStages}
 use Rattle.rules.specs.Severity.{Lot, sampled, lot, resubmitted}
+use Rattle.rules.specs.Supply.{Supply, supplyOf, noRun, move, cleanInRange}
 use Rattle.rules.specs.Severity.{Record, onNormal, onLot, step, figuresInRange, counted, singlePoints}
 use Rattle.rules.specs.Severity.{stagedPoints}
 use Rattle.rules.specs.Book.{checkBook, checkedAs, sections, section, entries, entry, shift, thenFrom, keyFalls}
 use Rattle.rules.specs.Book.{rises, numbersFrom, right, stagedRule, stagedNumber, acKeeps, reKeeps, sameKey}
 use Rattle.rules.specs.Book.{seek, seekIn, lookUp, every}
-use Rattle.rules.specs.Entries.{Closed, Offered, singleCounts, stagedCounts, plainPlan, stagedPlan, judgeTotal}
+use Rattle.rules.specs.Entries.{eventFor, Closed, Offered, singleCounts, stagedCounts, plainPlan, stagedPlan}
+use Rattle.rules.specs.Entries.{judgeTotal}
 use Rattle.rules.specs.Entries.{judgeStaged, closeTotal, closeStaged}
 use Rattle.rules.specs.Scoring.{SinglePoints, StagedPoints, Counts}
 use Rattle.rules.specs.Planning.{Closes}
@@ -59,16 +61,17 @@ module _ (r : Record) (o : Offered) where
   staged-counts j =
       counts-as (r .severity) (j .verdict .accepted) _ _ (staged-points (j .verdict .stage) (j .verdict .stages))
 
-  -- An original lot that is closed is the record's next event, as it counts.
-  pub original-lot : {P : Type 0} (judged : Answer (Judged P Verdict)) (counts : Judged P Verdict → Lot) (c : Closed P)
-      → o .again ≡ false → Closes r o judged counts c
-      → step r (lot sampled (counts (c .judged))) ≡ given (c .recordAfter)
-  original-lot judged counts c a k =
-      ap (λ (b : Bool). step r (cond b resubmitted (lot sampled (counts (c .judged))))) (sym a)
-      ∙ (ap (step r) (sym (k .stands)) ∙ k .stepped)
+-- An original lot that is closed from its sample is the record's next event, as it counts.
+pub original-lot : {P : Type 0} (s : Supply) (o : Offered) (judged : Answer (Judged P Verdict))
+    (counts : Judged P Verdict → Lot) (c : Closed P)
+    → o .again ≡ false → Closes s judged (λ j. eventFor o sampled (counts j)) c
+    → step (s .switching) (lot sampled (counts (c .judged))) ≡ given (c .supplyAfter .switching)
+original-lot s o judged counts c a k =
+    ap (λ (b : Bool). step (s .switching) (cond b resubmitted (lot sampled (counts (c .judged))))) (sym a)
+    ∙ (ap (step (s .switching)) (sym (k .stands)) ∙ k .took .stepped)
 
-fromFive : Record
-fromFive = onNormal 5 0 false false
+fromFive : Supply
+fromFive = supplyOf (onNormal 5 0 false false) noRun
 
 offered : ℕ → ℕ → ℕ → Offered
 offered size level column = record { again = false; size = size; level = level; column = column }
@@ -76,7 +79,11 @@ offered size level column = record { again = false; size = size; level = level; 
 -- severity, score and window after the lot; a refusal is its number
 closedAs : {P : Type 0} → Answer (Closed P) → List ℕ
 closedAs (refused n p) = n ∷ []
-closedAs (given c) = c .recordAfter .severity ∷ c .recordAfter .score ∷ c .recordAfter .window ∷ []
+closedAs (given c) =
+    c .supplyAfter .switching .severity
+    ∷ c .supplyAfter .switching .score
+    ∷ c .supplyAfter .switching .window
+    ∷ []
 
 -- one staged entry: normal, B, 1.0, two stages of 2 with (0,2)(1,2)
 twoStages : List ℕ
@@ -110,5 +117,5 @@ unfolding pointCases byTotal byStages fromFive offered closedAs numberBytes twoS
     judgeStaged plainPlan tablePlan landing boxAt tighterAc letterOf rowOf rowFrom stagedPlan checkBook numbersOf
     checkedAs sections section entries entry shift thenFrom keyFalls rises numbersFrom right stagedRule stagedNumber
     acKeeps reKeeps sameKey seek seekIn lookUp every totalSize judgeStages stagedFrom stagesFrom stageDecides takeItems
-    step onLot figuresInRange lib.Count.ones
+    move cleanInRange step onLot figuresInRange lib.Count.ones
 closed-points = refl

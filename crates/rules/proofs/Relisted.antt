@@ -7,7 +7,8 @@ use mathlib.Core.List.{List, [], _∷_, _++_}
 use Rattle.rules.specs.Ascii.{ascii}
 use Rattle.rules.specs.Codes.{letterOf, rowOf, rowFrom}
 use Rattle.rules.specs.Single.{landing, boxAt, tablePlan, tighterAc}
-use Rattle.rules.specs.Severity.{Record, fresh, onLot, onResubmitted, onOrder, onCorrective, step, figuresInRange}
+use Rattle.rules.specs.Supply.{Supply, freshSupply, move, cleanInRange}
+use Rattle.rules.specs.Severity.{onLot, onResubmitted, onOrder, onCorrective, step, figuresInRange}
 use Rattle.rules.specs.History.{ours, eventIn, eventOf}
 use Rattle.rules.specs.Entries.{next, closeTotal, judgeTotal, plainPlan}
 use Rattle.rules.specs.Log.{log, logFrom, loggedAs, lineOf, splitAt, droppingEmptyLast, allDigits, valueFrom}
@@ -28,16 +29,17 @@ output =
 
 pub listing : log ours input ≡ output
 unfolding input output log logFrom loggedAs lineOf splitAt droppingEmptyLast allDigits valueFrom isNumber digitsFrom
-    printed next closeTotal judgeTotal plainPlan tablePlan landing boxAt tighterAc letterOf rowOf rowFrom step onLot
+    printed next move cleanInRange closeTotal judgeTotal plainPlan tablePlan landing boxAt tighterAc letterOf rowOf
+    rowFrom step onLot
     onResubmitted onOrder onCorrective figuresInRange eventIn eventOf lib.Count.ones
 listing = refl
 
 -- "S (steady) and P (permission), each with 0 for no or 1 for yes": what is held after such lines, 1 for yes
-standing : Record → List ℕ
-standing r = flag (r .steady) ∷ flag (r .permission) ∷ []
+standing : Supply → List ℕ
+standing s = flag (s .switching .steady) ∷ flag (s .switching .permission) ∷ []
 
 heldAt : List ℕ → List ℕ
-heldAt lines = standing (heldFrom ours 1 (fresh (ours .permission)) (linesOf lines))
+heldAt lines = standing (heldFrom ours 1 (freshSupply (ours .permission)) (linesOf lines))
 
 pub orderCases : List (Case (List ℕ))
 orderCases =
@@ -49,5 +51,5 @@ orderCases =
 
 pub orders-by-line : AllAsSaid orderCases
 unfolding orderCases heldAt standing heldFrom loggedAs lineOf splitAt droppingEmptyLast allDigits valueFrom isNumber
-    digitsFrom printed next step onOrder figuresInRange eventIn eventOf lib.Count.ones
+    digitsFrom printed next move cleanInRange step onOrder figuresInRange eventIn eventOf lib.Count.ones
 orders-by-line = refl

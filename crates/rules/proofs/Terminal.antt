@@ -11,13 +11,14 @@ use lib.Dec.{leb, eqb}
 use lib.ListN.{length, getD, replicate, length-append, length-replicate}
 use lib.Seq.{ext-getD}
 use Rattle.rules.specs.Refusals.{Answer, refused, given, bufferShort}
-use Rattle.rules.specs.Severity.{Record, inRange, figuresInRange, fresh}
+use Rattle.rules.specs.Severity.{figuresInRange}
+use Rattle.rules.specs.Supply.{Supply, freshSupply, supplyInRange}
 use Rattle.rules.specs.History.{ours}
 use Rattle.rules.specs.Book.{every, seven, stagedOf}
 use Rattle.rules.specs.Entries.{Asked, stagedPlan}
 use Rattle.rules.specs.Numbers.{numbersOf}
 use Rattle.rules.specs.Staged.{StagedPlan}
-use Rattle.rules.specs.Terminal.{statusOf, largestPlace, wideStatusOf, flag, bytesOf, hasForm, recordIn}
+use Rattle.rules.specs.Terminal.{statusOf, largestPlace, wideStatusOf, flag, bytesOf, hasForm, supplyIn}
 use Rattle.rules.specs.Terminal.{recordBytes, rowLength, rowBytes, intoRow}
 use Rattle.rules.proofs.Numbers.{bytes-twice, numbers-back}
 use Rattle.rules.proofs.Answers.{refused-given}
@@ -36,40 +37,40 @@ flag-back true = refl
 flag-back false = refl
 
 -- A record's bytes have the form, and are read as that record ..
-pub bytes-form : (r : Record) → hasForm (bytesOf r) ≡ true
+pub bytes-form : (s : Supply) → hasForm (bytesOf s) ≡ true
 unfolding hasForm
-bytes-form r = rw (flag-low (r .steady), flag-low (r .permission))
+bytes-form s = rw (flag-low (s .switching .steady), flag-low (s .switching .permission))
 
-pub record-back : (r : Record) → recordIn (bytesOf r) ≡ r
-unfolding recordIn
-record-back r = rw (bytes-form r, flag-back (r .steady), flag-back (r .permission))
+pub supply-back : (s : Supply) → supplyIn (bytesOf s) ≡ s
+unfolding supplyIn
+supply-back s = rw (bytes-form s, flag-back (s .switching .steady), flag-back (s .switching .permission))
 
 flag-of : (x : ℕ) → leb x 1 ≡ true → flag (eqb x 1) ≡ x
 flag-of zero h = refl
 flag-of (suc zero) h = refl
 flag-of (suc (suc x)) h = absurd (omega (arith, leb-true (suc (suc x)) 1 h))
 
-all-seven : (bytes : List ℕ) → length bytes ≡ 7 → every 0 1 7 bytes ≡ bytes
-all-seven bytes h =
-    ext-getD 0 (every 0 1 7 bytes) bytes (every-length 0 1 7 bytes ∙ sym h)
+all-ten : (bytes : List ℕ) → length bytes ≡ 10 → every 0 1 10 bytes ≡ bytes
+all-ten bytes h =
+    ext-getD 0 (every 0 1 10 bytes) bytes (every-length 0 1 10 bytes ∙ sym h)
     (λ i l.
-    every-at 0 1 7 bytes i (rw (every-length 0 1 7 bytes) at l) ∙ ap (λ (k : ℕ). getD bytes k 0) (omega arith))
+    every-at 0 1 10 bytes i (rw (every-length 0 1 10 bytes) at l) ∙ ap (λ (k : ℕ). getD bytes k 0) (omega arith))
 
 -- .. and bytes of the form are those of the record that they are read as ..
-pub bytes-back : (bytes : List ℕ) → hasForm bytes ≡ true → bytesOf (recordIn bytes) ≡ bytes
-unfolding hasForm recordIn every
+pub bytes-back : (bytes : List ℕ) → hasForm bytes ≡ true → bytesOf (supplyIn bytes) ≡ bytes
+unfolding hasForm supplyIn every
 bytes-back bytes h =
-    let low = and-right (eqb (length bytes) 7) _ h in
+    let low = and-right (eqb (length bytes) 10) _ h in
     rw (
       h,
       flag-of (getD bytes 5 0) (and-left (leb (getD bytes 5 0) 1) _ low),
       flag-of (getD bytes 6 0) (and-right (leb (getD bytes 5 0) 1) _ low),
     )
-    (all-seven bytes (eqb-true (length bytes) 7 (and-left (eqb (length bytes) 7) _ h)))
+    (all-ten bytes (eqb-true (length bytes) 10 (and-left (eqb (length bytes) 10) _ h)))
 
 -- .. others are read as a record out of range.
-pub form-missing : (bytes : List ℕ) → hasForm bytes ≡ false → inRange (recordIn bytes) ≡ false
-unfolding recordIn figuresInRange
+pub form-missing : (bytes : List ℕ) → hasForm bytes ≡ false → supplyInRange (supplyIn bytes) ≡ false
+unfolding supplyIn figuresInRange
 form-missing bytes h = rw h
 
 -- A status is 0 exactly where something is given; document 01's numbers are 1 to 12.
@@ -150,13 +151,17 @@ given-row q book p h =
           every-length from by m e,
         )
 
--- A record's bytes in their order: severity, score, run, count, window, steady, permission.
+-- A record's bytes in their order: severity, score, run, count, window, steady, permission, clean run, letter, column.
 pub bytes-in-order : bytesOf
-    (record { severity = 1; score = 2; run = 3; count = 4; window = 5; steady = true; permission = false })
-    ≡ 1 ∷ 2 ∷ 3 ∷ 4 ∷ 5 ∷ 1 ∷ 0 ∷ []
+    (record {
+      switching =
+          record { severity = 1; score = 2; run = 3; count = 4; window = 5; steady = true; permission = false };
+      clean = record { run = 6; letter = 7; column = 8 };
+    })
+    ≡ 1 ∷ 2 ∷ 3 ∷ 4 ∷ 5 ∷ 1 ∷ 0 ∷ 6 ∷ 7 ∷ 8 ∷ []
 bytes-in-order = refl
 
--- Seven zero bytes are the fresh record.
-pub zero-bytes-fresh : recordIn (replicate recordBytes 0) ≡ fresh (ours .permission)
-unfolding recordIn hasForm
+-- Ten zero bytes are the fresh record.
+pub zero-bytes-fresh : supplyIn (replicate recordBytes 0) ≡ freshSupply (ours .permission)
+unfolding supplyIn hasForm
 zero-bytes-fresh = refl

@@ -20,6 +20,7 @@ use Rattle.rules.specs.Staged.{StagedPlan, mark, stagesFrom, stageDecide
 use Rattle.rules.specs.Screen.{Shown, mean, meanAndVariance, quotient, shownOf, screen}
 use Rattle.rules.specs.Variables.{acceptsReadings, withinSpread, margin, spread, sumZ, squaresZ, inGauge}
 use Rattle.rules.specs.Variables.{allInGauge}
+use Rattle.rules.specs.Supply.{move, cleanInRange}
 use Rattle.rules.specs.Severity.{onLot, onResubmitted, onOrder, onCorrective, step, figuresInRange}
 use Rattle.rules.specs.Reading.{severityRead, stayAfter, steadyIn, permissionIn, notAcceptedIn, runOf}
 use Rattle.rules.specs.Reading.{pointsOf, readLot, readOrder, readEvent}
@@ -193,7 +194,8 @@ output =
 -- lotlog's "Output, whole".
 pub listing : log ours input ≡ output
 unfolding input output log logFrom loggedAs lineOf splitAt droppingEmptyLast allDigits valueFrom isNumber digitsFrom
-    printed next closeTotal judgeTotal plainPlan tablePlan landing boxAt tighterAc letterOf rowOf rowFrom step onLot
+    printed next move cleanInRange closeTotal judgeTotal plainPlan tablePlan landing boxAt tighterAc letterOf rowOf
+    rowFrom step onLot
     onResubmitted onOrder onCorrective figuresInRange eventIn eventOf lib.Count.ones
 listing = refl
 
@@ -210,7 +212,8 @@ otherOutput =
 
 pub other-listing : log ours otherInput ≡ otherOutput
 unfolding otherInput otherOutput log logFrom loggedAs lineOf splitAt droppingEmptyLast allDigits valueFrom isNumber
-    digitsFrom printed next closeTotal judgeTotal plainPlan tablePlan landing boxAt tighterAc letterOf rowOf rowFrom
+    digitsFrom printed next move cleanInRange closeTotal judgeTotal plainPlan tablePlan landing boxAt tighterAc letterOf
+    rowOf rowFrom
     step onLot onResubmitted onOrder onCorrective figuresInRange eventIn eventOf lib.Count.ones
 other-listing = refl
 
@@ -237,6 +240,7 @@ thirdOutput =
 
 pub third-listing : log ours thirdInput ≡ thirdOutput
 unfolding thirdInput thirdOutput log logFrom loggedAs lineOf splitAt droppingEmptyLast allDigits valueFrom isNumber
-    digitsFrom printed next closeTotal judgeTotal plainPlan tablePlan landing boxAt tighterAc letterOf rowOf rowFrom
+    digitsFrom printed next move cleanInRange closeTotal judgeTotal plainPlan tablePlan landing boxAt tighterAc letterOf
+    rowOf rowFrom
     step onLot onResubmitted onOrder onCorrective figuresInRange eventIn eventOf lib.Count.ones
 third-listing = refl

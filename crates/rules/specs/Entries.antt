@@ -1,5 +1,5 @@
 -- Each public entry: the order of its refusals and its answer. Definitions only.
-use Prim.Native.Nat.{ℕ}
+use Prim.Native.Nat.{ℕ, min}
 use mathlib.Core.Bool.{Bool, cond, _&&_, not}
 use mathlib.Core.List.{List, [], _∷_, _++_}
 use lib.Dec.{ltb, eqb}
@@ -12,8 +12,10 @@ use Rattle.rules.specs.Single.{Plan, cutTo, tablePlan, tighterAc, single
 use Rattle.rules.specs.Staged.{StagedPlan, stagesOf, totalSize, judgeStages}
 use Rattle.rules.specs.Sequential.{SequentialPlan, judgeSequence}
 use Rattle.rules.specs.Variables.{VariablesPlan, judgeReadings}
-use Rattle.rules.specs.Severity.{Lot, sampled, Event, lot, resubmitted, Record, step, inRange, counted}
+use Rattle.rules.specs.Severity.{Lot, Origin, sampled, onFraction, Event, lot, resubmitted, Record, counted}
 use Rattle.rules.specs.Severity.{singlePoints, stagedPoints}
+use Rattle.rules.specs.Fractional.{FractionalPlan, planOfShare, ownPlan, shareAt, judgeByShare}
+use Rattle.rules.specs.Supply.{Supply, runOn, move, supplyInRange}
 use Rattle.rules.specs.History.{Work, eventIn}
 use Rattle.rules.specs.Book.{Kind, variables, couldHold, Found, found}
 use Rattle.rules.specs.Book.{nothing, lookUp, checkBook, onSound, reducedOf, stagedOf, sequentialOf}
@@ -101,6 +103,19 @@ plainPlan q =
     firstOf (askedChecks q ++ ((eqb (q .severity) reduced gives noPlan) ∷ []))
     (given (tablePlan (q .severity) (q .size) (q .level) (q .column)))
 
+-- the mode of fractional acceptance numbers: the box at the lot's own Table 1 letter; "6 when the column is over 15 and
+-- the box is fractional"; where it is no fraction, the plan as ever
+abbrev pub inFractions : Asked → Plan → Answer FractionalPlan
+inFractions q plan =
+    let letter = letterOf (q .size) (q .level) in
+    let share = shareAt (q .severity) (q .column) letter in
+    cond (eqb share 0) (given (planOfShare plan 0))
+    (firstOf ((not (countsItems (q .column)) gives noPlan) ∷ []) (given (planOfShare (ownPlan (q .size) letter) share)))
+
+-- fractional_plan
+unfoldable pub fractionalPlan : Asked → List ℕ → Answer FractionalPlan
+fractionalPlan q book = andThen (singlePlan q book) (inFractions q)
+
 -- the plans that only a book supplies
 unfoldable pub stagedPlan : Asked → List ℕ → Answer StagedPlan
 stagedPlan q book =
@@ -149,18 +164,21 @@ judgeVariables upper q book limit readings =
     andThen (variablesPlan q book) (judgedOn (λ plan. judgeReadings upper plan limit readings))
 
 -- "a record out of range"
-abbrev pub onRecord : {A : Type 0} → Record → Answer A → Answer A
-onRecord r answer = firstOf ((not (inRange r) gives unknownForm) ∷ []) answer
+abbrev pub onSupply : {A : Type 0} → Supply → Answer A → Answer A
+onSupply s answer = firstOf ((not (supplyInRange s) gives unknownForm) ∷ []) answer
 
--- next: what a history byte makes of a lent record
-unfoldable pub next : Work → Record → ℕ → Answer Record
-next w r byte = onRecord r (step r (eventIn w byte))
+-- close_lot, and next: what an event, or a history byte, makes of a lent record
+abbrev pub moved : Supply → Event → Answer Supply
+moved s e = onSupply s (move s e)
+
+unfoldable pub next : Work → Supply → ℕ → Answer Supply
+next w s byte = moved s (eventIn w byte)
 
 -- A lot that was closed: how it was judged, the event that it stands for, and the next record.
 pub record Closed (Plan : Type 0) : Type 0 where
   pub judged : Judged Plan Verdict
   pub event : Event
-  pub recordAfter : Record
+  pub supplyAfter : Supply
 
 -- A lot that is offered to be closed: "Resubmitted lots are judged at the present severity and change nothing."
 pub record Offered : Type 0 where
@@ -172,8 +190,8 @@ pub record Offered : Type 0 where
 abbrev pub askedOn : Record → Offered → Asked
 askedOn r o = record { severity = r .severity; size = o .size; level = o .level; column = o .column }
 
-abbrev pub eventFor : Offered → Lot → Event
-eventFor o counts = cond (o .again) resubmitted (lot sampled counts)
+abbrev pub eventFor : Offered → Origin → Lot → Event
+eventFor o from counts = cond (o .again) resubmitted (lot from counts)
 
 -- how a single or a staged lot counts
 abbrev pub singleCounts : Record → Offered → Judged Plan Verdict → Lot
@@ -185,22 +203,53 @@ abbrev pub stagedCounts : Record → Offered → Judged StagedPlan Verdict → L
 stagedCounts r o j =
     counted (r .severity) (j .verdict .accepted) (stagedPoints (j .verdict .stage) (j .verdict .stages))
 
-abbrev pub closedWith : {P : Type 0}
-    → Record → Offered → (Judged P Verdict → Lot) → Judged P Verdict → Answer (Closed P)
-closedWith r o counts j =
-    andThen (step r (eventFor o (counts j)))
-    (λ t. given (record { judged = j; event = eventFor o (counts j); recordAfter = t }))
+-- the event that a judged lot stands for
+abbrev pub singleEvent : Record → Offered → Judged Plan Verdict → Event
+singleEvent r o j = eventFor o sampled (singleCounts r o j)
+
+abbrev pub stagedEvent : Record → Offered → Judged StagedPlan Verdict → Event
+stagedEvent r o j = eventFor o sampled (stagedCounts r o j)
+
+abbrev pub closedWith : {P : Type 0} → Supply → (Judged P Verdict → Event) → Judged P Verdict → Answer (Closed P)
+closedWith s event j = andThen (move s (event j)) (λ t. given (record { judged = j; event = event j; supplyAfter = t }))
 
 -- close_single, close_staged: "12 first", then a record out of range, then as the lot is judged at the present severity
-unfoldable pub closeSingle : Record → Offered → List ℕ → List ℕ → Answer (Closed Plan)
-closeSingle r o book sample =
+unfoldable pub closeSingle : Supply → Offered → List ℕ → List ℕ → Answer (Closed Plan)
+closeSingle s o book sample =
     onSound (checkBook book)
-    (onRecord r (andThen (judgeSingle (askedOn r o) book sample) (closedWith r o (singleCounts r o))))
+    (onSupply s
+    (andThen (judgeSingle (askedOn (s .switching) o) book sample) (closedWith s (singleEvent (s .switching) o))))
 
-unfoldable pub closeStaged : Record → Offered → List ℕ → List ℕ → Answer (Closed StagedPlan)
-closeStaged r o book sample =
+unfoldable pub closeStaged : Supply → Offered → List ℕ → List ℕ → Answer (Closed StagedPlan)
+closeStaged s o book sample =
     onSound (checkBook book)
-    (onRecord r (andThen (judgeStaged (askedOn r o) book sample) (closedWith r o (stagedCounts r o))))
+    (onSupply s
+    (andThen (judgeStaged (askedOn (s .switching) o) book sample) (closedWith s (stagedEvent (s .switching) o))))
+
+-- judge_fractional: by the record's severity and clean run, as far as that is on the plan; resubmitted or not
+unfoldable pub judgeFractional : Supply → Offered → List ℕ → List ℕ → Answer (Judged FractionalPlan Verdict)
+judgeFractional s o book sample =
+    onSound (checkBook book)
+    (onSupply s
+    (andThen (fractionalPlan (askedOn (s .switching) o) book)
+    (judgedOn (λ p. judgeByShare (runOn (s .clean) (p .plan .letter) (o .column)) (o .column) p sample))))
+
+-- a lot judged in this mode, without its share: "For the score such a plan counts as Ac 0"
+abbrev pub asSingle : Judged FractionalPlan Verdict → Judged Plan Verdict
+asSingle j = record { plan = j .plan .plan; verdict = j .verdict }
+
+-- how it enters: on a fraction with its plan and its total, held at 2
+abbrev pub originOf : Offered → Judged FractionalPlan Verdict → Origin
+originOf o j =
+    cond (eqb (j .plan .share) 0) sampled (onFraction (j .plan .plan .letter) (o .column) (min 2 (j .verdict .total)))
+
+abbrev pub fractionalEvent : Record → Offered → Judged FractionalPlan Verdict → Event
+fractionalEvent r o j = eventFor o (originOf o j) (singleCounts r o (asSingle j))
+
+-- close_fractional
+unfoldable pub closeFractional : Supply → Offered → List ℕ → List ℕ → Answer (Closed FractionalPlan)
+closeFractional s o book sample =
+    andThen (judgeFractional s o book sample) (closedWith s (fractionalEvent (s .switching) o))
 
 -- "in lotlog, total over n for columns 0 to 15"
 abbrev pub totalOn : ℕ → ℕ → Plan → Answer (Judged Plan Verdict)
@@ -212,5 +261,7 @@ unfoldable pub judgeTotal : Asked → ℕ → Answer (Judged Plan Verdict)
 judgeTotal q total = andThen (plainPlan q) (totalOn (q .column) total)
 
 -- close_total
-unfoldable pub closeTotal : Record → Offered → ℕ → Answer (Closed Plan)
-closeTotal r o total = onRecord r (andThen (judgeTotal (askedOn r o) total) (closedWith r o (singleCounts r o)))
+unfoldable pub closeTotal : Supply → Offered → ℕ → Answer (Closed Plan)
+closeTotal s o total =
+    onSupply s
+    (andThen (judgeTotal (askedOn (s .switching) o) total) (closedWith s (singleEvent (s .switching) o)))

@@ -4,7 +4,7 @@ use mathlib.Core.Bool.{Bool, true, cond, not}
 use mathlib.Core.List.{List, [], _∷_, _++_}
 use lib.Dec.{ltb, eqb}
 use lib.ListN.{length, take, drop}
-use Rattle.rules.specs.Severity.{Record, fresh}
+use Rattle.rules.specs.Supply.{Supply, freshSupply}
 use Rattle.rules.specs.History.{Work}
 use Rattle.rules.specs.Log.{splitAt, newline, space, Line, unknownLine, lineOf, Logged, loggedAs, lineAfter}
 
@@ -36,15 +36,15 @@ lineBegun w tooLong = unknownLine
 
 -- What is held between pieces: the record, and the number and the bytes of the unfinished line.
 pub record Held : Type 0 where
-  pub supply : Record
+  pub supply : Supply
   pub line : ℕ
   pub begun : Begun
 
-abbrev pub holding : Record → ℕ → Begun → Held
-holding r line begun = record { supply = r; line = line; begun = begun }
+abbrev pub holding : Supply → ℕ → Begun → Held
+holding s line begun = record { supply = s; line = line; begun = begun }
 
 abbrev pub starting : Work → Held
-starting w = holding (fresh (w .permission)) 1 (soFar [])
+starting w = holding (freshSupply (w .permission)) 1 (soFar [])
 
 -- the unfinished line is finished: what it prints, and what is held then
 abbrev pub ended : Work → Held → Logged

@@ -2,6 +2,7 @@
 -- the others are refused. Definitions only.
 use Prim.Native.Nat.{ℕ, suc, _*_, _≤_, _<_}
 use mathlib.Core.Path.{_≡_}
+use mathlib.Core.Logic.{_↔_}
 use mathlib.Core.Bool.{Bool, true, false, cond}
 use mathlib.Core.List.{List}
 use lib.Dec.{leb}
@@ -11,6 +12,7 @@ use Rattle.rules.specs.Numbers.{numbersOf, sumOf}
 use Rattle.rules.specs.Codes.{illegal, anyIllegal}
 use Rattle.rules.specs.Verdict.{Verdict, Decision, accepts, rejects, goesOn}
 use Rattle.rules.specs.Single.{Plan}
+use Rattle.rules.specs.Fractional.{FractionalPlan}
 use Rattle.rules.specs.Staged.{StagedPlan, stageAt, stagesFrom, totalSize, stageDecides}
 use Rattle.rules.specs.Sequential.{SequentialPlan, itemDecides}
 use Rattle.rules.specs.Variables.{VariablesPlan, inGauge, readingsOf, acceptsReadings}
@@ -157,3 +159,27 @@ pub record Screened (bytes : List ℕ) (s : Shown) : Type 0 where
   pub fits-so : Fits bytes count
   pub readings-in : OutAt (readingsOf bytes) → ⊥
   pub shows : shownOf count (sumZ (readingsOf bytes)) (squaresZ (readingsOf bytes)) ≡ s
+
+-- Document 02, T-01: when a sample accepts on a plan of that mode, by its total and how many samples just before it
+-- were clean on that plan. "A clean sample accepts. One nonconforming item accepts under 1/2 if the previous lot's
+-- sample was clean, under 1/3 if the previous two were .. Two or more never accept."; where Ac is whole, at most that.
+pub data Passes (p : FractionalPlan) (before total : ℕ) : Type 0 where
+  at-most : p .share ≡ 0 → total ≤ p .plan .ac → Passes p before total
+  clean-sample : (p .share ≡ 0 → ⊥) → total ≡ 0 → Passes p before total
+  under-half : p .share ≡ 2 → total ≡ 1 → 1 ≤ before → Passes p before total
+  under-third : p .share ≡ 3 → total ≡ 1 → 2 ≤ before → Passes p before total
+
+-- The sample is refused as on any single plan (ItemRows); and else its verdict.
+pub record SharedJudged (before column : ℕ) (sample : List ℕ) (p : FractionalPlan) (v : Verdict) : Type 0 where
+  pub whole : length sample ≡ 2 * p .plan .n
+  pub legal : IllegalAt column (numbersOf sample) → ⊥
+  pub accepted-exactly : (v .accepted ≡ true) ↔ Passes p before (sumOf (numbersOf sample))
+  pub verdict :
+      record {
+        accepted = v .accepted;
+        used = p .plan .n;
+        total = sumOf (numbersOf sample);
+        stage = 1;
+        stages = 1;
+      }
+      ≡ v

@@ -1,4 +1,5 @@
--- What must be believed: the functions' promises are written in these, each held to document 01 sentence by sentence.
+-- What must be believed: the functions' promises are written in these, each held to document 01, or to the request of
+-- document 02 that it names, sentence by sentence.
 pub mod Refusals
 pub mod Numbers
 pub mod Codes
@@ -9,6 +10,8 @@ pub mod Sequential
 pub mod Variables
 pub mod Screen
 pub mod Severity
+pub mod Fractional
+pub mod Supply
 pub mod History
 pub mod Book
 pub mod Entries
@@ -16,12 +19,14 @@ pub mod Ascii
 pub mod Log
 pub mod Terminal
 -- Second readings: the same said another way and proved to agree, so that a slip would have to be made in both alike.
--- Reading says without a record what Severity says step by step (`agree`). Faults, by the places of Layout, says
--- without a walk what Book finds (`lowest`, `sound-has-none`). Feeding says piece by piece what Log says of a whole
--- input (`any-pieces`). Printed has the rows of Table 1 by their first and last sizes (`row-by-size`), and the master
--- tables letter by letter (`boxes-as-printed`). Some promises are written in them too: the severities listed are those
--- of Reading, lotlog's pieces are fed as in Feeding, and an entry's plan is that of Layout's entry.
+-- Reading says without a record what Severity says step by step (`agree`), CleanReading what Supply says of the clean
+-- run (`ran-clean`). Faults, by the places of Layout, says without a walk what Book finds (`lowest`, `sound-has-none`).
+-- Feeding says piece by piece what Log says of a whole input (`any-pieces`). Printed has the rows of Table 1 by their
+-- first and last sizes (`row-by-size`), and the master tables letter by letter (`boxes-as-printed`). Some promises are
+-- written in them too: the severities listed are those of Reading, lotlog's pieces are fed as in Feeding, and the plan
+-- of an entry is that of Layout's entry.
 pub mod Reading
+pub mod CleanReading
 pub mod Layout
 pub mod Faults
 pub mod Printed

@@ -9,7 +9,8 @@ use Prim.Native.Char.{code}
 use Rattle.rules.specs.Ascii.{ascii}
 use Rattle.rules.specs.Codes.{letterNames}
 use Rattle.rules.specs.Single.{Plan}
-use Rattle.rules.specs.Severity.{resubmitted, steadyIs, permissionIs, corrective, Record, fresh}
+use Rattle.rules.specs.Severity.{resubmitted, steadyIs, permissionIs, corrective}
+use Rattle.rules.specs.Supply.{Supply, freshSupply}
 use Rattle.rules.specs.History.{byteOf, Work, knows}
 use Rattle.rules.specs.Entries.{Offered, Closed, closeTotal, next}
 
@@ -176,42 +177,43 @@ lotPrinted line used plan accepted severity score =
     ∷ decimal score
     ∷ [])
 
-abbrev pub lotText : ℕ → Record → Closed Plan → List ℕ
-lotText line r c =
-    lotPrinted line (r .severity) (c .judged .plan) (c .judged .verdict .accepted) (c .recordAfter .severity)
-    (c .recordAfter .score)
+abbrev pub lotText : ℕ → Supply → Closed Plan → List ℕ
+lotText line s c =
+    lotPrinted line (s .switching .severity) (c .judged .plan) (c .judged .verdict .accepted)
+    (c .supplyAfter .switching .severity)
+    (c .supplyAfter .switching .score)
 
 -- "An accepted order prints its line number, "order", severity and score after."
 abbrev pub orderPrinted : ℕ → ℕ → ℕ → List ℕ
 orderPrinted line severity score =
     printed (decimal line) (ascii "order" ∷ severityName severity ∷ decimal score ∷ [])
 
-abbrev pub orderText : ℕ → Record → List ℕ
-orderText line r = orderPrinted line (r .severity) (r .score)
+abbrev pub orderText : ℕ → Supply → List ℕ
+orderText line s = orderPrinted line (s .switching .severity) (s .switching .score)
 
 -- What a line prints, and the record after it.
 pub record Logged : Type 0 where
-  pub held : Record
+  pub held : Supply
   pub text : List ℕ
 
-abbrev pub logged : Record → List ℕ → Logged
-logged r text = record { held = r; text = text }
+abbrev pub logged : Supply → List ℕ → Logged
+logged s text = record { held = s; text = text }
 
-abbrev pub loggedLot : ℕ → Record → Answer (Closed Plan) → Logged
-loggedLot line r (refused number p) = logged r (refusedLine line number)
-loggedLot line r (given c) = logged (c .recordAfter) (lotText line r c)
+abbrev pub loggedLot : ℕ → Supply → Answer (Closed Plan) → Logged
+loggedLot line s (refused number p) = logged s (refusedLine line number)
+loggedLot line s (given c) = logged (c .supplyAfter) (lotText line s c)
 
-abbrev pub loggedOrder : ℕ → Record → Answer Record → Logged
-loggedOrder line r (refused number p) = logged r (refusedLine line number)
-loggedOrder line r (given t) = logged t (orderText line t)
+abbrev pub loggedOrder : ℕ → Supply → Answer Supply → Logged
+loggedOrder line s (refused number p) = logged s (refusedLine line number)
+loggedOrder line s (given t) = logged t (orderText line t)
 
-unfoldable pub loggedAs : Work → ℕ → Record → Line → Logged
-loggedAs w line r (lotLine o total) = loggedLot line r (closeTotal r o total)
-loggedAs w line r (orderLine byte) = loggedOrder line r (next w r byte)
-loggedAs w line r unknownLine = logged r (refusedLine line unknownForm)
+unfoldable pub loggedAs : Work → ℕ → Supply → Line → Logged
+loggedAs w line s (lotLine o total) = loggedLot line s (closeTotal s o total)
+loggedAs w line s (orderLine byte) = loggedOrder line s (next w s byte)
+loggedAs w line s unknownLine = logged s (refusedLine line unknownForm)
 
-abbrev pub loggedLine : Work → ℕ → Record → List ℕ → Logged
-loggedLine w line r bytes = loggedAs w line r (lineOf w (splitAt space bytes))
+abbrev pub loggedLine : Work → ℕ → Supply → List ℕ → Logged
+loggedLine w line s bytes = loggedAs w line s (lineOf w (splitAt space bytes))
 
 -- the line's number sticks at 2⁶⁴ − 1
 abbrev pub largestLine : ℕ
@@ -220,13 +222,13 @@ largestLine = 18446744073709551615
 abbrev pub lineAfter : ℕ → ℕ
 lineAfter line = min (line + 1) largestLine
 
-unfoldable pub logFrom : Work → ℕ → Record → List (List ℕ) → List ℕ
-logFrom w line r [] = []
-logFrom w line r (l ∷ ls) = loggedLine w line r l .text ++ logFrom w (lineAfter line) (loggedLine w line r l .held) ls
+unfoldable pub logFrom : Work → ℕ → Supply → List (List ℕ) → List ℕ
+logFrom w line s [] = []
+logFrom w line s (l ∷ ls) = loggedLine w line s l .text ++ logFrom w (lineAfter line) (loggedLine w line s l .held) ls
 
 abbrev pub header : List ℕ
 header = ascii "no sev let n ac verdict next score\n"
 
 -- the whole output for a whole input
 unfoldable pub log : Work → List ℕ → List ℕ
-log w input = header ++ logFrom w 1 (fresh (w .permission)) (linesOf input)
+log w input = header ++ logFrom w 1 (freshSupply (w .permission)) (linesOf input)

@@ -2,8 +2,8 @@
 -- alone. Lines stand in their order, calls newest first. Definitions only.
 use Prim.Native.Nat.{ℕ}
 use mathlib.Core.List.{List, [], _∷_, _++_}
-use Rattle.rules.specs.Severity.{Record}
-use Rattle.rules.specs.Reading.{recordRead}
+use Rattle.rules.specs.Supply.{Supply}
+use Rattle.rules.specs.CleanReading.{supplyRead}
 use Rattle.rules.specs.History.{Work}
 use Rattle.rules.specs.Log.{Line, lotLine, orderLine, unknownLine, splitAt, space, lineOf, loggedLine, lineAfter}
 use Rattle.rules.specs.Runs.{Call, total, byte, eventsRead}
@@ -23,9 +23,9 @@ callsAfter w cs [] = cs
 callsAfter w cs (l ∷ ls) = callsAfter w (callsWith w l cs) ls
 
 -- the record that lotlog holds after lines, and the number of the line that then comes
-unfoldable pub heldFrom : Work → ℕ → Record → List (List ℕ) → Record
-heldFrom w line r [] = r
-heldFrom w line r (l ∷ ls) = heldFrom w (lineAfter line) (loggedLine w line r l .held) ls
+unfoldable pub heldFrom : Work → ℕ → Supply → List (List ℕ) → Supply
+heldFrom w line s [] = s
+heldFrom w line s (l ∷ ls) = heldFrom w (lineAfter line) (loggedLine w line s l .held) ls
 
 unfoldable pub lineFrom : ℕ → List (List ℕ) → ℕ
 lineFrom line [] = line
@@ -35,5 +35,5 @@ lineFrom line (l ∷ ls) = lineFrom (lineAfter line) ls
 unfoldable pub logRead : Work → ℕ → List Call → List (List ℕ) → List ℕ
 logRead w line cs [] = []
 logRead w line cs (l ∷ ls) =
-    loggedLine w line (recordRead (w .permission) (eventsRead w cs)) l .text
+    loggedLine w line (supplyRead (w .permission) (eventsRead w cs)) l .text
     ++ logRead w (lineAfter line) (callsWith w l cs) ls

@@ -1,23 +1,28 @@
 -- What demand 2 says of each entry that plans, judges or closes a lot, and of a history: the rows of its refusals, and
 -- what is known of what is given. Definitions only.
-use Prim.Native.Nat.{ℕ, suc, _≤_, _<_}
+use Prim.Native.Nat.{ℕ, suc, _+_, _≤_, _<_}
 use mathlib.Core.Path.{_≡_}
-use mathlib.Core.Bool.{true}
+use mathlib.Core.Logic.{_⊎_}
+use mathlib.Core.Bool.{true, false}
 use mathlib.Core.List.{List, [], _∷_}
 use lib.Dec.{leb}
 use lib.ListN.{length, getD, take}
 use Rattle.rules.specs.Refusals.{Answer, refused, given}
 use Rattle.rules.specs.Verdict.{Verdict, Judged}
 use Rattle.rules.specs.Codes.{letterOf}
-use Rattle.rules.specs.Single.{Plan, cutTo, tablePlan}
+use Rattle.rules.specs.Single.{sizes, Plan, cutTo, tablePlan}
 use Rattle.rules.specs.Staged.{stagesOf, totalSize}
-use Rattle.rules.specs.Severity.{Lot, Event, lot, resubmitted, steadyIs, permissionIs, corrective, unknown}
-use Rattle.rules.specs.Severity.{Record, step, inRange}
+use Rattle.rules.specs.Severity.{Event, lot, resubmitted, steadyIs, permissionIs, corrective, unknown}
+use Rattle.rules.specs.Severity.{Record, step}
+use Rattle.rules.specs.Fractional.{half, third, FractionalPlan, planOfShare, shareAt, judgeByShare}
+use Rattle.rules.specs.Supply.{CleanRun, Supply, runOn, countsOn, cleanAfter, supplyInRange}
 use Rattle.rules.specs.Reading.{severityRead}
 use Rattle.rules.specs.History.{Work, eventIn, after, past}
 use Rattle.rules.specs.Book.{sound, checkBook, found, nothing, stagedOf, sequentialOf, variablesOf}
 use Rattle.rules.specs.Entries.{Asked, lookedUp, reducedSection, stagedSection, sequentialSection}
-use Rattle.rules.specs.Entries.{variablesSection, plainPlan, Closed, Offered, eventFor}
+use Rattle.rules.specs.Entries.{variablesSection, plainPlan, singlePlan, Closed, Offered, askedOn}
+use Rattle.rules.specs.Entries.{fractionalPlan}
+use Rattle.rules.specs.Judging.{ItemRows}
 use Rattle.rules.specs.Reporting.{Row, NoRow, Then}
 
 -- 1 to 5, "of every entry that judges or plans a lot", and then its own rows.
@@ -112,13 +117,19 @@ pub record TotalJudged (q : Asked) (total : ℕ) (j : Judged Plan Verdict) : Typ
       record { accepted = leb total (j .plan .ac); used = j .plan .n; total = total; stage = 1; stages = 1 }
       ≡ j .verdict
 
+-- What it means that a supply took an event, which counts as it stands: each part by its own step.
+pub record Took (s : Supply) (e : Event) (t : Supply) : Type 0 where
+  pub stepped : step (s .switching) e ≡ given (t .switching)
+  pub clean : t .clean ≡ cleanAfter (s .switching .severity) (t .switching .severity) (s .clean) e
+
 -- A lot closed: it is judged, and taken into the record as the event that it stands for.
-pub record Closes {P : Type 0} (r : Record) (o : Offered) (judged : Answer (Judged P Verdict))
-    (counts : Judged P Verdict → Lot) (c : Closed P) : Type 0 where
-  pub in-range : inRange r ≡ true
+pub record Closes {P : Type 0} (s : Supply) (judged : Answer (Judged P Verdict)) (event : Judged P Verdict → Event)
+    (c : Closed P) : Type 0 where
+  pub in-range : supplyInRange s ≡ true
   pub as-judged : judged ≡ given (c .judged)
-  pub stands : c .event ≡ eventFor o (counts (c .judged))
-  pub stepped : step r (c .event) ≡ given (c .recordAfter)
+  pub stands : c .event ≡ event (c .judged)
+  pub as-told : countsOn s (c .event) ≡ c .event
+  pub took : Took s (c .event) (c .supplyAfter)
 
 -- An event: 1 for one of no known form, 5 for any lot while stopped, 10 for a corrective order when not stopped.
 abbrev pub IsLot : Event → Type 0
@@ -146,3 +157,72 @@ pub record BufferListed (w : Work) (h out left : List ℕ) : Type 0 where
   pub same-length : length left ≡ length out
   pub severities : (k : ℕ) → k < length h → getD left k 0 ≡ severityRead (w .permission) (past w h (suc k))
   pub rest : (k : ℕ) → length h ≤ k → getD left k 0 ≡ getD out k 0
+
+-- Document 02, T-01: "normal s 15 is 1/3 and s 16 is 1/2; tightened s 16 is 1/3 and s 17 is 1/2", by severity and s ..
+abbrev pub OneThird : ℕ → ℕ → Type 0
+OneThird severity s = ((severity ≡ 0) × (s ≡ 15)) ⊎ ((severity ≡ 1) × (s ≡ 16))
+
+abbrev pub OneHalf : ℕ → ℕ → Type 0
+OneHalf severity s = ((severity ≡ 0) × (s ≡ 16)) ⊎ ((severity ≡ 1) × (s ≡ 17))
+
+-- .. at the lot's own Table 1 letter
+abbrev pub OwnThird : Asked → Type 0
+OwnThird q = OneThird (q .severity) (letterOf (q .size) (q .level) + q .column)
+
+abbrev pub OwnHalf : Asked → Type 0
+OwnHalf q = OneHalf (q .severity) (letterOf (q .size) (q .level) + q .column)
+
+-- the share there
+abbrev pub ownShare : Asked → ℕ
+ownShare q = shareAt (q .severity) (q .column) (letterOf (q .size) (q .level))
+
+-- "all at their own letter, size and column, with no arrow": its plan, the size cut to the lot, Ac 0
+abbrev pub ownFraction : Asked → ℕ → FractionalPlan
+ownFraction q share =
+    let letter = letterOf (q .size) (q .level) in
+    record { plan = record { letter = letter; n = cutTo (q .size) (getD sizes letter 0); ac = 0 }; share = share }
+
+-- The plan in that mode: refused as the single plan, and "6 when the column is over 15 and the box is fractional".
+abbrev pub FractionalPlanRows : Asked → List ℕ → ℕ → Type 0
+FractionalPlanRows q book =
+    Then (SinglePlanRows q book) (singlePlan q book)
+    (λ plan. Row 6 ((OwnThird q ⊎ OwnHalf q) × (15 < q .column)) NoRow)
+
+-- Where the lot's own box is no fraction, the single plan.
+pub record FractionalPlanned (q : Asked) (book : List ℕ) (p : FractionalPlan) : Type 0 where
+  pub book-sound : checkBook book ≡ sound
+  pub lot : Plannable q
+  pub one-third : OwnThird q → (q .column ≤ 15) × (ownFraction q 3 ≡ p)
+  pub one-half : OwnHalf q → (q .column ≤ 15) × (ownFraction q 2 ≡ p)
+  pub else-whole : (OwnThird q ⊎ OwnHalf q → ⊥) → (p .share ≡ 0) × SinglePlanned q book (p .plan)
+
+-- A clean run in range, in plain inequalities: "1 also when a lent record's clean run is over 2, or its plan is no
+-- fractional box of its severity beside a run of 1 or 2, or not 0 beside a run of 0".
+pub record CleanWithin (severity : ℕ) (c : CleanRun) : Type 0 where
+  pub run-fits : c .run ≤ 2
+  pub no-plan : c .run ≡ 0 → (c .letter ≡ 0) × (c .column ≡ 0)
+  pub own-plan : (c .run ≡ 0 → ⊥)
+      → (c .letter ≤ 15) × (c .column ≤ 15)
+      × (OneThird severity (c .letter + c .column) ⊎ OneHalf severity (c .letter + c .column))
+
+-- a share is none, one half or one third
+abbrev pub ShareKinds : ℕ → Type 0
+ShareKinds share = (share ≡ 0) ⊎ ((share ≡ half) ⊎ (share ≡ third))
+
+-- a lot judged, or closed, in the old mode, with a share of 0
+abbrev pub withShare : Judged Plan Verdict → Judged FractionalPlan Verdict
+withShare j = record { plan = planOfShare (j .plan) 0; verdict = j .verdict }
+
+abbrev pub closedWithShare : Closed Plan → Closed FractionalPlan
+closedWithShare c = record { judged = withShare (c .judged); event = c .event; supplyAfter = c .supplyAfter }
+
+-- a sample judged on the mode's plan, by a record and the lot's column
+abbrev pub onPlan : Supply → Offered → List ℕ → FractionalPlan → Answer Verdict
+onPlan s o sample p = judgeByShare (runOn (s .clean) (p .plan .letter) (o .column)) (o .column) p sample
+
+-- a lot judged or closed in the mode: 1 for a record out of range, then as its plan is refused, then its sample
+abbrev pub FractionalRows : Supply → Offered → List ℕ → List ℕ → ℕ → Type 0
+FractionalRows s o book sample =
+    Row 1 (supplyInRange s ≡ false)
+    (Then (FractionalPlanRows (askedOn (s .switching) o) book) (fractionalPlan (askedOn (s .switching) o) book)
+    (λ p. ItemRows (o .column) sample (p .plan)))

@@ -28,7 +28,8 @@ noSuchColumn = 4
 abbrev pub whileStopped : ℕ
 whileStopped = 5
 
--- 6: no book entry under the key, or a staged total, nt or variables n above the lot size
+-- 6: no book entry under the key, or a staged total, nt or variables n above the lot size; in the mode of document 02,
+-- T-01, a fractional box at a column over 15
 abbrev pub noPlan : ℕ
 noPlan = 6
 

@@ -7,17 +7,20 @@ use mathlib.Core.List.{List, [], _∷_, map}
 use mathlib.Core.Logic.{_⊎_}
 use lib.IntN.{ℤ}
 use Rattle.rules.specs.Refusals.{Answer, refused, given}
-use Rattle.rules.specs.Severity.{Event, corrective, Record, fresh, step}
+use Rattle.rules.specs.Severity.{Lot, sampled, Event, lot, resubmitted, corrective}
+use Rattle.rules.specs.Supply.{Supply, freshSupply, countsOn}
 use Rattle.rules.specs.Verdict.{Verdict, Judged}
-use Rattle.rules.specs.Reading.{isResubmitted, severityRead, recordRead}
+use Rattle.rules.specs.Reading.{isResubmitted, severityRead}
+use Rattle.rules.specs.CleanReading.{supplyRead}
 use Rattle.rules.specs.History.{Work, eventIn, byteOf}
-use Rattle.rules.specs.Entries.{Asked, Offered, Closed, closeSingle, closeStaged, closeTotal, next}
-use Rattle.rules.specs.Entries.{onRecord}
+use Rattle.rules.specs.Entries.{Asked, Offered, Closed, closeSingle, closeStaged, closeTotal, closeFractional}
+use Rattle.rules.specs.Entries.{moved, next}
 
--- A call: a lot closed from its sample, or by its total; a history byte, which is an order or a lot; an event handed to
--- close_lot; a sequential or variables verdict in between.
+-- A call: a lot closed from its sample, in the old mode or in that of fractions, or by its total; a history byte, which
+-- is an order or a lot; an event handed to close_lot; a sequential or variables verdict in between.
 pub data Call : Type 0 where
   single : Offered → List ℕ → List ℕ → Call
+  fractional : Offered → List ℕ → List ℕ → Call
   staged : Offered → List ℕ → List ℕ → Call
   total : Offered → ℕ → Call
   byte : ℕ → Call
@@ -27,30 +30,32 @@ pub data Call : Type 0 where
 
 -- What a call enters into the record: the event that it stands for, and the next record; or nothing.
 pub data Entered : Type 0 where
-  enters : Event → Record → Entered
+  enters : Event → Supply → Entered
   nothing : Entered
 
 abbrev pub enteredBy : {P : Type 0} → Answer (Closed P) → Entered
 enteredBy (refused n p) = nothing
-enteredBy (given c) = enters (c .event) (c .recordAfter)
+enteredBy (given c) = enters (c .event) (c .supplyAfter)
 
-abbrev pub enteredAs : Event → Answer Record → Entered
+abbrev pub enteredAs : Event → Answer Supply → Entered
 enteredAs e (refused n p) = nothing
 enteredAs e (given r) = enters e r
 
 -- "Sequential and variables verdicts don't enter the record"
-unfoldable pub entered : Work → Record → Call → Entered
-entered w r (single o book sample) = enteredBy (closeSingle r o book sample)
-entered w r (staged o book sample) = enteredBy (closeStaged r o book sample)
-entered w r (total o d) = enteredBy (closeTotal r o d)
-entered w r (byte b) = enteredAs (eventIn w b) (next w r b)
-entered w r (event e) = enteredAs e (onRecord r (step r e))
-entered w r (sequential q book sample) = nothing
-entered w r (variables upper q book limit readings) = nothing
+unfoldable pub entered : Work → Supply → Call → Entered
+entered w s (single o book sample) = enteredBy (closeSingle s o book sample)
+entered w s (fractional o book sample) = enteredBy (closeFractional s o book sample)
+entered w s (staged o book sample) = enteredBy (closeStaged s o book sample)
+entered w s (total o d) = enteredBy (closeTotal s o d)
+entered w s (byte b) = enteredAs (eventIn w b) (next w s b)
+entered w s (event e) = enteredAs (countsOn s e) (moved s e)
+entered w s (sequential q book sample) = nothing
+entered w s (variables upper q book limit readings) = nothing
 
 -- a call that closes or types a resubmitted lot
 abbrev pub isResubmission : Work → Call → Bool
 isResubmission w (single o book sample) = o .again
+isResubmission w (fractional o book sample) = o .again
 isResubmission w (staged o book sample) = o .again
 isResubmission w (total o d) = o .again
 isResubmission w (byte b) = isResubmitted (eventIn w b)
@@ -63,18 +68,18 @@ withoutResubmissions w [] = []
 withoutResubmissions w (c ∷ cs) =
     cond (isResubmission w c) (withoutResubmissions w cs) (c ∷ withoutResubmissions w cs)
 
-abbrev pub recordBy : Record → Entered → Record
-recordBy r (enters e t) = t
-recordBy r nothing = r
+abbrev pub supplyBy : Supply → Entered → Supply
+supplyBy s (enters e t) = t
+supplyBy s nothing = s
 
 abbrev pub eventsBy : List Event → Entered → List Event
 eventsBy es (enters e t) = e ∷ es
 eventsBy es nothing = es
 
 -- the record after a run from a fresh record, refused calls dropped
-unfoldable pub ran : Work → List Call → Record
-ran w [] = fresh (w .permission)
-ran w (c ∷ cs) = recordBy (ran w cs) (entered w (ran w cs) c)
+unfoldable pub ran : Work → List Call → Supply
+ran w [] = freshSupply (w .permission)
+ran w (c ∷ cs) = supplyBy (ran w cs) (entered w (ran w cs) c)
 
 -- the events that the calls of a run stand for
 unfoldable pub eventsRan : Work → List Call → List Event
@@ -89,18 +94,34 @@ bytesRan w cs = map byteOf (eventsRan w cs)
 unfoldable pub eventsRead : Work → List Call → List Event
 eventsRead w [] = []
 eventsRead w (c ∷ cs) =
-    eventsBy (eventsRead w cs) (entered w (recordRead (w .permission) (eventsRead w cs)) c)
+    eventsBy (eventsRead w cs) (entered w (supplyRead (w .permission) (eventsRead w cs)) c)
 
 -- a call that is a corrective order
 abbrev pub Corrects : Call → Type 0
 Corrects c = (c ≡ byte 9) ⊎ (c ≡ event corrective)
+
+-- How a call enters a lot: closed on a whole Ac or in stages it is sampled, and a byte is that of its list. Only a lot
+-- closed in the mode of fractions or handed over can stand on a fraction; what these enter is said by their closing and
+-- by how an event counts.
+abbrev pub SampledOrAgain : Event → Type 0
+SampledOrAgain e = (e ≡ resubmitted) ⊎ ((l : Lot) × (e ≡ lot sampled l))
+
+abbrev pub EntersAs : Work → Call → Event → Type 0
+EntersAs w (single o book sample) e = SampledOrAgain e
+EntersAs w (fractional o book sample) e = Unit {0}
+EntersAs w (staged o book sample) e = SampledOrAgain e
+EntersAs w (total o d) e = SampledOrAgain e
+EntersAs w (byte b) e = e ≡ eventIn w b
+EntersAs w (event x) e = Unit {0}
+EntersAs w (sequential q book sample) e = ⊥
+EntersAs w (variables upper q book limit readings) e = ⊥
 
 -- A call that leaves the record and the events as they are.
 abbrev pub Idle : Work → List Call → Call → Type 0
 Idle w cs call = (ran w (call ∷ cs) ≡ ran w cs) × (eventsRan w (call ∷ cs) ≡ eventsRan w cs)
 
 -- A call and its answer: given, the next record and the event of what is given are recorded; refused, nothing is.
-pub record Records {A : Type 0} (w : Work) (cs : List Call) (call : Call) (answer : Answer A) (after : A → Record)
+pub record Records {A : Type 0} (w : Work) (cs : List Call) (call : Call) (answer : Answer A) (after : A → Supply)
     (told : A → Event) : Type 0 where
   pub recorded : (a : A) → answer ≡ given a
       → (ran w (call ∷ cs) ≡ after a) × (eventsRan w (call ∷ cs) ≡ told a ∷ eventsRan w cs)
@@ -108,13 +129,13 @@ pub record Records {A : Type 0} (w : Work) (cs : List Call) (call : Call) (answe
 
 -- A lot closed is recorded as the event that it tells.
 abbrev pub ClosesLot : {P : Type 0} → Work → List Call → Call → Answer (Closed P) → Type 0
-ClosesLot w cs call answer = Records w cs call answer (λ c. c .recordAfter) (λ c. c .event)
+ClosesLot w cs call answer = Records w cs call answer (λ c. c .supplyAfter) (λ c. c .event)
 
 -- One call more leaves all as it was, or enters one event, of which this holds with the severity then.
 abbrev pub ByCall : Work → Call → List Call → (Event → ℕ → Type 0) → Type 0
 ByCall w c cs P =
     Idle w cs c
-    ⊎ ((e : Event) × (eventsRan w (c ∷ cs) ≡ e ∷ eventsRan w cs) × P e (ran w (c ∷ cs) .severity))
+    ⊎ ((e : Event) × (eventsRan w (c ∷ cs) ≡ e ∷ eventsRan w cs) × P e (ran w (c ∷ cs) .switching .severity))
 
 -- a lot asked about under a severity
 abbrev pub askedAt : ℕ → Offered → Asked

@@ -2,9 +2,10 @@
 -- a lot. Definitions only.
 use Prim.Native.Nat.{ℕ, zero, suc, _+_, _*_, _%_, min}
 use mathlib.Core.Bool.{Bool, true, false, cond, _&&_, not}
+use mathlib.Core.List.{[], _∷_}
 use lib.Count.{ones}
 use lib.Dec.{leb, ltb, eqb}
-use Rattle.rules.specs.Refusals.{Answer, refused, given, unknownForm, whileStopped, notStopped}
+use Rattle.rules.specs.Refusals.{Answer, refused, given, _gives_, firstOf, unknownForm, whileStopped, notStopped}
 use Rattle.rules.specs.Codes.{normal, tightened, reduced, stopped}
 
 -- An original lot, as it counts: accepted and "add 3", "add 2" or "score 0"; or not accepted.
@@ -17,9 +18,11 @@ accepted addTwo = true
 accepted scoreZero = true
 accepted notAccepted = false
 
--- How an original lot entered the record: typed as a history byte, or closed from its plan and sample.
+-- How an original lot entered the record: typed as a history byte; closed from its plan and sample; or so on a
+-- fractional plan of document 02, T-01, by its letter, column and total.
 pub data Origin : Type 0 where
   typed sampled : Origin
+  onFraction : ℕ → ℕ → ℕ → Origin
 
 pub data Event : Type 0 where
   lot : Origin → Lot → Event
@@ -155,6 +158,10 @@ figuresInRange (suc (suc (suc (suc s)))) r = false
 
 abbrev pub inRange : Record → Bool
 inRange r = figuresInRange (r .severity) r
+
+-- "a record out of range"
+abbrev pub onRecord : {A : Type 0} → Record → Answer A → Answer A
+onRecord r answer = firstOf ((not (inRange r) gives unknownForm) ∷ []) answer
 
 -- The score of a lot that is closed under a severity; only normal keeps one.
 abbrev pub counted : ℕ → Bool → Lot → Lot

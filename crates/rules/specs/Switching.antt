@@ -1,14 +1,17 @@
 -- What the laws of demand 3 say of stays and of changes of severity: what stays, by what each severity is left, what
 -- stands when reduced starts, what a history's stays are, and what a record in range is. Lots and events stand newest
 -- first. Definitions only.
-use Prim.Native.Nat.{ℕ, _≤_, _<_}
+use Prim.Native.Nat.{ℕ, zero, suc, _+_, _≤_, _<_}
 use mathlib.Core.Path.{_≡_}
 use mathlib.Core.Bool.{Bool, true, false}
 use mathlib.Core.List.{List, [], _∷_, _++_}
-use mathlib.Core.Logic.{_↔_}
+use mathlib.Core.Logic.{_↔_, _⊎_}
 use lib.Count.{ones}
 use lib.ListN.{length, take}
 use Rattle.rules.specs.Codes.{normal, tightened, reduced, stopped}
+use Rattle.rules.specs.Severity.{addTwo, Origin, typed, sampled, onFraction, counted}
+use Rattle.rules.specs.Fractional.{hasFractionalPlan}
+use Rattle.rules.specs.Planning.{OneThird, OneHalf}
 use Rattle.rules.specs.Severity.{Lot, accepted, Event, lot, resubmitted, steadyIs, permissionIs, corrective}
 use Rattle.rules.specs.Severity.{unknown, Record, started}
 use Rattle.rules.specs.Reading.{steadyIn, permissionIn, notAcceptedIn, pointsOf, Stay, stayOf, severityRead}
@@ -155,3 +158,37 @@ pub record Within (s : ℕ) (r : Record) : Type 0 where
   pub ones-fit : ones (r .window) ≤ 1
   pub normal-alone : (s ≡ normal → ⊥) → (r .score ≡ 0) × (r .window ≡ 0)
   pub tightened-alone : (s ≡ tightened → ⊥) → (r .run ≡ 0) × (r .count ≡ 0)
+
+-- "if the previous lot's sample was clean", "if the previous two were, all on the same plan": the newest k lots were
+-- entered with clean samples on this plan
+abbrev pub NewestClean : ℕ → ℕ → ℕ → List Origin → Type 0
+NewestClean zero letter column os = Unit {0}
+NewestClean (suc k) letter column [] = ⊥
+NewestClean (suc k) letter column (o ∷ os) = (o ≡ onFraction letter column 0) × NewestClean k letter column os
+
+-- accepted exactly with no nonconforming item, or with one after k clean samples on this plan
+abbrev pub AcceptedAfter : ℕ → ℕ → ℕ → List Origin → ℕ → Bool → Type 0
+AcceptedAfter k letter column os total accepted =
+    (accepted ≡ true) ↔ ((total ≡ 0) ⊎ ((total ≡ 1) × NewestClean k letter column os))
+
+-- How a lot on a fractional plan counts, after the lots of its stay and at its severity: "under 1/2 if the previous
+-- lot's sample was clean, under 1/3 if the previous two were"; "For the score such a plan counts as Ac 0."
+pub record CountsOnFraction (severity : ℕ) (os : List Origin) (letter column total : ℕ) (l : Lot) : Type 0 where
+  pub one-half : OneHalf severity (letter + column) → AcceptedAfter 1 letter column os total (accepted l)
+  pub one-third : OneThird severity (letter + column) → AcceptedAfter 2 letter column os total (accepted l)
+  pub as-ac-0 : accepted l ≡ true → l ≡ counted severity true addTwo
+
+-- so of every original lot that stands on a fractional plan at the severity
+abbrev pub LotCounts : ℕ → List Origin → Origin → Lot → Type 0
+LotCounts severity os typed l = Unit {0}
+LotCounts severity os sampled l = Unit {0}
+LotCounts severity os (onFraction letter column total) l =
+    hasFractionalPlan severity column letter ≡ true → CountsOnFraction severity os letter column total l
+
+abbrev pub FractionCounts : ℕ → List Origin → Event → Type 0
+FractionCounts severity os (lot o l) = LotCounts severity os o l
+FractionCounts severity os resubmitted = Unit {0}
+FractionCounts severity os (steadyIs b) = Unit {0}
+FractionCounts severity os (permissionIs b) = Unit {0}
+FractionCounts severity os corrective = Unit {0}
+FractionCounts severity os unknown = Unit {0}

@@ -9,7 +9,8 @@ use lib.ListN.{length, getD, drop}
 use Rattle.rules.specs.Refusals.{Answer, refused, given, _gives_, firstOf, andThen, bufferShort}
 use Rattle.rules.specs.Numbers.{numberBytes}
 use Rattle.rules.specs.Staged.{StagedPlan}
-use Rattle.rules.specs.Severity.{Record, started}
+use Rattle.rules.specs.Severity.{started}
+use Rattle.rules.specs.Supply.{Supply, supplyOf, noRun}
 
 -- 0 answered; else the refusal's number in the low byte and its place above it
 abbrev pub statusOf : {A : Type 0} → Answer A → ℕ
@@ -30,27 +31,38 @@ abbrev pub leftBy : {A B : Type 0} → (A → B) → Answer A → B → B
 leftBy value (refused n p) before = before
 leftBy value (given a) before = value a
 
--- a record's bytes: severity, score, run, count, window, steady, permission
+-- a record's bytes: severity, score, run, count, window, steady, permission, clean run, its plan's letter and column
 abbrev pub recordBytes : ℕ
-recordBytes = 7
+recordBytes = 10
 
 abbrev pub flag : Bool → ℕ
 flag b = cond b 1 0
 
-abbrev pub bytesOf : Record → List ℕ
-bytesOf r =
-    r .severity ∷ r .score ∷ r .run ∷ r .count ∷ r .window ∷ flag (r .steady) ∷ flag (r .permission) ∷ []
+abbrev pub bytesOf : Supply → List ℕ
+bytesOf s =
+    s .switching .severity
+    ∷ s .switching .score
+    ∷ s .switching .run
+    ∷ s .switching .count
+    ∷ s .switching .window
+    ∷ flag (s .switching .steady)
+    ∷ flag (s .switching .permission)
+    ∷ s .clean .run
+    ∷ s .clean .letter
+    ∷ s .clean .column
+    ∷ []
 
 -- another length, or a steady or permission byte over 1, is a record out of range
 unfoldable pub hasForm : List ℕ → Bool
 hasForm bytes = eqb (length bytes) recordBytes && (leb (getD bytes 5 0) 1 && leb (getD bytes 6 0) 1)
 
-abbrev pub outOfForm : Record
-outOfForm = started 4 false false
+abbrev pub outOfForm : Supply
+outOfForm = supplyOf (started 4 false false) noRun
 
-unfoldable pub recordIn : List ℕ → Record
-recordIn bytes =
+unfoldable pub supplyIn : List ℕ → Supply
+supplyIn bytes =
     cond (hasForm bytes)
+    (supplyOf
     (record {
       severity = getD bytes 0 0;
       score = getD bytes 1 0;
@@ -60,6 +72,7 @@ recordIn bytes =
       steady = eqb (getD bytes 5 0) 1;
       permission = eqb (getD bytes 6 0) 1;
     })
+    (record { run = getD bytes 7 0; letter = getD bytes 8 0; column = getD bytes 9 0 }))
     outOfForm
 
 -- A staged plan's row: seven sizes, seven Ac and seven Re, of 16 bits each.

@@ -1,4 +1,5 @@
 pub mod OneResult
+pub mod Sharing
 pub mod Sizes
 pub mod Supplies
 pub mod Verdicts

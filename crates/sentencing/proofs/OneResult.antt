@@ -1,5 +1,5 @@
 -- Each promise of a public function admits one result: answers with the same numbers and values are the same, since
--- document 01's answer tells the code's. Those of single lots are planned-one (plans), judged-one and closed-one
+-- the documents' answer tells the code's. Those of single lots are planned-one (plans), judged-one and closed-one
 -- (closing).
 -- Assumes nothing.
 use mathlib.Core.Path.{_≡_, ap}
@@ -9,7 +9,8 @@ use Rattle.rules.specs.Variables as variables
 use Rattle.rules.proofs.Answers.{read-back}
 use Rattle.plans.specs.declared.Outcome.{Outcome}
 use Rattle.plans.specs.declared.VerdictAnswer.{VerdictAnswer}
-use Rattle.plans.proofs.OneResult.{outcomeBack, outcome-back}
+use Rattle.plans.specs.Paper.{fractionalPaper}
+use Rattle.plans.proofs.OneResult.{outcomeBack, outcome-back, fractionalBack}
 use Rattle.entry.specs.declared.StagedPlan.{StagedPlan}
 use Rattle.entry.specs.declared.SequentialPlan.{SequentialPlan}
 use Rattle.entry.specs.declared.VariablesPlan.{VariablesPlan}
@@ -23,8 +24,11 @@ use Rattle.sentencing.specs.declared.judging.StagedJudged.{StagedJudged}
 use Rattle.sentencing.specs.declared.judging.SequentialJudged.{SequentialJudged}
 use Rattle.sentencing.specs.declared.judging.VariablesJudged.{VariablesJudged}
 use Rattle.sentencing.specs.declared.closings.StagedClosed.{StagedClosed}
+use Rattle.sentencing.specs.declared.fractional.FractionalJudged.{FractionalJudged}
+use Rattle.sentencing.specs.declared.fractional.FractionalClosed.{FractionalClosed}
 use Rattle.sentencing.specs.Paper.{stagedPlanned, sequentialPlanned, variablesPlanned}
 use Rattle.sentencing.specs.Paper.{stagedJudged, sequentialJudged, variablesJudged, stagedClosed}
+use Rattle.sentencing.specs.Paper.{fractionalJudged, fractionalClosed}
 
 abbrev stagedBack : staged.StagedPlan → StagedPlan
 stagedBack p = record { stages = p .stages; sizes = p .sizes; acs = p .acs; res = p .res }
@@ -91,3 +95,15 @@ staged-closed-one =
     read-back stagedClosed (λ b. record { answer = closedBack (b .answer); plan = stagedBack (b .plan) })
     (λ a. ap (λ (x : ClosedAnswer). record { answer = x; plan = a .plan })
     (closed-back (stagedPaper (a .plan)) (a .answer)))
+
+pub fractional-judged-one : (a b : FractionalJudged) → fractionalJudged a ≡ fractionalJudged b → a ≡ b
+fractional-judged-one =
+    read-back fractionalJudged (λ b. record { answer = judgedBack (b .answer); plan = fractionalBack (b .plan) })
+    (λ a. ap (λ (x : VerdictAnswer). record { answer = x; plan = a .plan })
+    (judged-back (fractionalPaper (a .plan)) (a .answer)))
+
+pub fractional-closed-one : (a b : FractionalClosed) → fractionalClosed a ≡ fractionalClosed b → a ≡ b
+fractional-closed-one =
+    read-back fractionalClosed (λ b. record { answer = closedBack (b .answer); plan = fractionalBack (b .plan) })
+    (λ a. ap (λ (x : ClosedAnswer). record { answer = x; plan = a .plan })
+    (closed-back (fractionalPaper (a .plan)) (a .answer)))

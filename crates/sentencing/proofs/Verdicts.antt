@@ -1,6 +1,6 @@
 -- A verdict beside its plan, by what planning and judging the sample promise: one law for every kind of plan.
 -- Assumes nothing.
-use Prim.Native.Nat.{ℕ}
+use Prim.Native.Nat.{ℕ, _<_}
 use mathlib.Core.Path.{_≡_, refl, sym, ap, _∙_}
 use mathlib.Core.Bool.{Bool, true, false}
 use mathlib.Core.List.{List}
@@ -9,14 +9,16 @@ use borrow.Author.Tests.{le-ltb}
 use lib.IntN.{ℤ}
 use Rattle.rules.specs.Refusals.{Answer, refused, given, andThen}
 use Rattle.rules.specs.Verdict.{Verdict, Judged}
-use Rattle.rules.specs.Severity.{Record, inRange}
+use Rattle.rules.specs.Severity.{Event}
+use Rattle.rules.specs.Supply.{Supply, supplyInRange}
 use Rattle.rules.specs.Book.{Checked, sound, brokenAt, checkBook, onSound}
 use Rattle.rules.specs.Single.{Plan, judgeItems}
 use Rattle.rules.specs.Staged.{StagedPlan, judgeStages}
 use Rattle.rules.specs.Variables.{VariablesPlan, judgeReadings}
-use Rattle.rules.specs.Entries.{Asked, judgedOn, singlePlan, stagedPlan, variablesPlan, Lettered, lettered}
-use Rattle.rules.specs.Entries.{singleSample, stagedSample, variablesSample, judgeSingle, judgeStaged, onRecord}
-use Rattle.rules.specs.Entries.{Closed}
+use Rattle.rules.specs.Entries.{Asked, judgedOn, singlePlan, fractionalPlan, stagedPlan, variablesPlan, Lettered}
+use Rattle.rules.specs.Entries.{lettered, singleSample, stagedSample, variablesSample, judgeSingle, judgeStaged}
+use Rattle.rules.specs.Entries.{Offered, askedOn, onSupply, Closed, closedWith, singleEvent, stagedEvent, closeSingle}
+use Rattle.rules.specs.Entries.{closeStaged}
 use Rattle.rules.proofs.Answers.{refused-given, given-one}
 use Rattle.rules.proofs.Demands.Two.{single-plan-given, staged-plan-given}
 use Rattle.rules.proofs.GivenPlans.{variables-given}
@@ -24,8 +26,10 @@ use Rattle.plans.specs.declared.Outcome.{Outcome}
 use Rattle.plans.specs.declared.Outcome.the-variants as outcomes
 use Rattle.plans.specs.declared.VerdictAnswer.{VerdictAnswer}
 use Rattle.plans.specs.declared.VerdictAnswer.the-variants as verdicts
-use Rattle.plans.specs.Paper.{beside, outcomeOn, verdictAnswer, verdictOn, itself}
+use Rattle.plans.specs.Paper.{Beside, beside, outcomeOn, verdictAnswer, verdictOn, itself, zeroPlan}
 use Rattle.plans.proofs.Standing.{beside-answer, planned-refused, planned-given}
+use Rattle.entry.specs.Paper.{noStages}
+use Rattle.closing.specs.Paper.{planJudged, planClosed}
 use Rattle.sentencing.specs.Paper.{withoutLetter, planned}
 use Rattle.sentencing.proofs.Supplies.{refused-alike, checked-once}
 
@@ -80,14 +84,17 @@ module _ {P : Type 0} (plan : Answer P) (judge : P → Answer Verdict) where
       ∙ ap (λ (x : Answer Verdict). andThen x (λ v. given (record { plan = p; verdict = v }))) h
       ∙ ap (λ (x : Answer P). andThen x (judgedOn judge)) (sym e)
 
+-- A sample of a column that stands is judged as on any single plan.
+pub items-in-column : (column : ℕ) (p : Plan) (sample : List ℕ) → column < 26
+    → singleSample column p sample ≡ judgeItems column p sample
+unfolding singleSample
+items-in-column column p sample h = rw (le-ltb 25 column (omega arith))
+
 -- A plan that an entry gives is judged as it is handed over.
 module _ (q : Asked) (book sample : List ℕ) where
   pub single-sample : (p : Plan) → singlePlan q book ≡ given p
       → singleSample (q .column) p sample ≡ judgeItems (q .column) p sample
-  unfolding singleSample
-  single-sample p h =
-      let lot = single-plan-given q book p .0 h .lot in
-      rw (le-ltb 25 (q .column) (omega (arith, lot .column)))
+  single-sample p h = items-in-column (q .column) p sample (single-plan-given q book p .0 h .lot .column)
 
   pub staged-sample : (p : StagedPlan) → stagedPlan q book ≡ given p
       → stagedSample (q .column) p sample ≡ judgeStages (q .column) p sample
@@ -101,14 +108,11 @@ module _ (q : Asked) (book sample : List ℕ) where
   unfolding variablesSample
   variables-sample upper limit p h = rw (variables-given q book p h .1)
 
--- A lot that is closed from a book has had it checked, and its record is in range.
-module _ {P C : Type 0} (c : Checked) (judged : Answer (Judged P Verdict)) (close : Judged P Verdict → Answer C) where
-  pub checked : judged ≡ onSound c judged → andThen judged close ≡ onSound c (andThen judged close)
-  checked h = go c h
-    where
-      go : (k : Checked) → judged ≡ onSound k judged → andThen judged close ≡ onSound k (andThen judged close)
-      go sound e = refl
-      go (brokenAt byte) e = rw e
+-- What goes on from an answer of a checked book has had it checked.
+pub checked : {A B : Type 0} (c : Checked) (a : Answer A) (next : A → Answer B) → a ≡ onSound c a
+    → andThen a next ≡ onSound c (andThen a next)
+checked sound a next e = refl
+checked (brokenAt byte) a next e = rw e
 
 module _ (q : Asked) (book sample : List ℕ) where
   pub single-checked : judgeSingle q book sample ≡ onSound (checkBook book) (judgeSingle q book sample)
@@ -119,13 +123,73 @@ module _ (q : Asked) (book sample : List ℕ) where
   unfolding judgeStaged stagedPlan
   staged-checked = sym (checked-once (checkBook book) _ _)
 
-module _ {P : Type 0} (book : List ℕ) (r : Record) (judged : Answer (Judged P Verdict))
-    (close : Judged P Verdict → Answer (Closed P)) where
-  pub closed-in-range : inRange r ≡ true → judged ≡ onSound (checkBook book) judged
-      → andThen judged (λ j. onRecord r (close j)) ≡ onSound (checkBook book) (onRecord r (andThen judged close))
-  closed-in-range within h = rw within (checked (checkBook book) judged close h)
+pub fractional-checked : (q : Asked) (book : List ℕ)
+    → fractionalPlan q book ≡ onSound (checkBook book) (fractionalPlan q book)
+unfolding fractionalPlan singlePlan
+fractional-checked q book = sym (checked-once (checkBook book) _ _)
 
-  pub closed-out-of-range : inRange r ≡ false → (m k : ℕ)
+-- A record out of range is refused after the book.
+pub out-of-range : {A : Type 0} (book : List ℕ) (s : Supply) (a : Answer A) → supplyInRange s ≡ false → (m k : ℕ)
+    → _≡_ {A = Answer (Unit {0})} (refused m k) (onSound (checkBook book) (refused 1 0))
+    → refused m k ≡ onSound (checkBook book) (onSupply s a)
+out-of-range book s a out m k first = rw out (refused-alike (checkBook book) 1 0 m k first)
+
+-- A lot closed, by its record and by how it is judged at the present severity.
+module _ {P : Type 0} (zeros : P) (s : Supply) (o : Offered) (book : List ℕ)
+    (judge : Asked → Answer (Judged P Verdict)) (event : Judged P Verdict → Event) (t : Bool)
+    (range : t ≡ supplyInRange s) (x : Beside P (Closed P)) where
+  abbrev IsClosed : Type 0
+  IsClosed =
+      x
+      ≡ beside zeros planClosed
+      (onSound (checkBook book) (onSupply s (andThen (judge (askedOn (s .switching) o)) (closedWith s event))))
+
+  closes : (q : Asked) (b : Beside P (Judged P Verdict)) → t ≡ true → q ≡ askedOn (s .switching) o
+      → b ≡ beside zeros planJudged (judge q) → judge q ≡ onSound (checkBook book) (judge q)
+      → x ≡ beside zeros planClosed (andThen (b .answer) (λ j. onSupply s (closedWith s event j))) → IsClosed
+  closes q b e asked judged checks k =
+      let within : supplyInRange s ≡ true = sym range ∙ e in
+      let a = beside-answer zeros planJudged b (judge q) judged in
+      rw (← asked, within, ← checked (checkBook book) (judge q) (closedWith s event) checks, ← a) (rw within at k)
+
+  closes-out : (m k : ℕ) → t ≡ false
       → _≡_ {A = Answer (Unit {0})} (refused m k) (onSound (checkBook book) (refused 1 0))
-      → refused m k ≡ onSound (checkBook book) (onRecord r (andThen judged close))
-  closed-out-of-range out m k first = rw out (refused-alike (checkBook book) 1 0 m k first)
+      → x ≡ beside zeros planClosed (refused m k) → IsClosed
+  closes-out m k e first z = z ∙ ap (beside zeros planClosed) (out-of-range book s _ (sym range ∙ e) m k first)
+
+module _ (s : Supply) (o : Offered) (book sample : List ℕ) (t : Bool) (range : t ≡ supplyInRange s) where
+  module _ (x : Beside Plan (Closed Plan)) where
+    pub single-closed : (q : Asked) (b : Beside Plan (Judged Plan Verdict)) → t ≡ true → q ≡ askedOn (s .switching) o
+        → b ≡ beside zeroPlan planJudged (judgeSingle q book sample)
+        → x ≡ beside zeroPlan planClosed
+        (andThen (b .answer) (λ j. onSupply s (closedWith s (singleEvent (s .switching) o) j)))
+        → x ≡ beside zeroPlan planClosed (closeSingle s o book sample)
+    unfolding closeSingle
+    single-closed q b e asked judged k =
+        closes zeroPlan s o book (λ q. judgeSingle q book sample) _ t range x q b e asked judged
+        (single-checked q book sample) k
+
+    pub single-out : (m k : ℕ) → t ≡ false
+        → _≡_ {A = Answer (Unit {0})} (refused m k) (onSound (checkBook book) (refused 1 0))
+        → x ≡ beside zeroPlan planClosed (refused m k) → x ≡ beside zeroPlan planClosed (closeSingle s o book sample)
+    unfolding closeSingle
+    single-out m k e first z =
+        closes-out zeroPlan s o book (λ q. judgeSingle q book sample) _ t range x m k e first z
+
+  module _ (x : Beside StagedPlan (Closed StagedPlan)) where
+    pub staged-closed : (q : Asked) (b : Beside StagedPlan (Judged StagedPlan Verdict)) → t ≡ true
+        → q ≡ askedOn (s .switching) o → b ≡ beside noStages planJudged (judgeStaged q book sample)
+        → x ≡ beside noStages planClosed
+        (andThen (b .answer) (λ j. onSupply s (closedWith s (stagedEvent (s .switching) o) j)))
+        → x ≡ beside noStages planClosed (closeStaged s o book sample)
+    unfolding closeStaged
+    staged-closed q b e asked judged k =
+        closes noStages s o book (λ q. judgeStaged q book sample) _ t range x q b e asked judged
+        (staged-checked q book sample) k
+
+    pub staged-out : (m k : ℕ) → t ≡ false
+        → _≡_ {A = Answer (Unit {0})} (refused m k) (onSound (checkBook book) (refused 1 0))
+        → x ≡ beside noStages planClosed (refused m k) → x ≡ beside noStages planClosed (closeStaged s o book sample)
+    unfolding closeStaged
+    staged-out m k e first z =
+        closes-out noStages s o book (λ q. judgeStaged q book sample) _ t range x m k e first z

@@ -1,4 +1,4 @@
--- Document 01's numbers and values for each case of the code's types. Definitions only.
+-- The documents' numbers and values for each case of the code's types. Definitions only.
 use Prim.Native.Nat.{ℕ}
 use mathlib.Core.List.{List}
 use Rattle.rules.specs.Refusals.{Answer, refused, given, firstOf, andThen}
@@ -7,17 +7,19 @@ use Rattle.rules.specs.Verdict.{Verdict, Judged}
 use Rattle.rules.specs.Staged as staged
 use Rattle.rules.specs.Sequential as sequential
 use Rattle.rules.specs.Variables as variables
+use Rattle.rules.specs.Fractional as fractional
 use Rattle.rules.specs.Book.{checkBook, onSound}
 use Rattle.rules.specs.Entries.{Asked, askedChecks, Lettered, Closed}
 use Rattle.plans.specs.declared.Outcome.{Outcome}
 use Rattle.plans.specs.declared.VerdictAnswer.{VerdictAnswer}
-use Rattle.plans.specs.Paper.{Beside, outcomeOn, verdictOn}
+use Rattle.plans.specs.Paper.{Beside, outcomeOn, verdictOn, fractionalPaper}
 use Rattle.entry.specs.Paper.{stagedPaper, sequentialPaper, variablesPaper}
 use Rattle.book.specs.Places.{placeHeld}
+use Rattle.closing.specs.declared.ClosedAnswer.{ClosedAnswer}
 use Rattle.closing.specs.Paper.{closedOn}
 use Rattle.sentencing.specs.declared.planning.Refusal.{Refusal}
-use Rattle.sentencing.specs.declared.planning.Supply.{Supply}
-use Rattle.sentencing.specs.declared.planning.Supply.the-variants as supply
+use Rattle.sentencing.specs.declared.planning.Supplied.{Supplied}
+use Rattle.sentencing.specs.declared.planning.Supplied.the-variants as supplied
 use Rattle.sentencing.specs.declared.planning.StagedPlanned.{StagedPlanned}
 use Rattle.sentencing.specs.declared.planning.SequentialPlanned.{SequentialPlanned}
 use Rattle.sentencing.specs.declared.planning.VariablesPlanned.{VariablesPlanned}
@@ -25,6 +27,8 @@ use Rattle.sentencing.specs.declared.judging.StagedJudged.{StagedJudged}
 use Rattle.sentencing.specs.declared.judging.SequentialJudged.{SequentialJudged}
 use Rattle.sentencing.specs.declared.judging.VariablesJudged.{VariablesJudged}
 use Rattle.sentencing.specs.declared.closings.StagedClosed.{StagedClosed}
+use Rattle.sentencing.specs.declared.fractional.FractionalJudged.{FractionalJudged}
+use Rattle.sentencing.specs.declared.fractional.FractionalClosed.{FractionalClosed}
 
 abbrev pub refusalPaper : Refusal → Answer (Unit {0})
 refusalPaper r = refused (r .number) (r .place)
@@ -37,9 +41,9 @@ placeFor section q book =
     (andThen (placeHeld section (q .severity) (letterOf (q .size) (q .level)) (q .column) book)
     (λ p. given (record { letter = letterOf (q .size) (q .level); plan = p }))))
 
-abbrev pub supplyPaper : Supply → Answer (Lettered ℕ)
-supplyPaper (supply.Refused n p) = refused n p
-supplyPaper (supply.At letter place) = given (record { letter = letter; plan = place })
+abbrev pub suppliedPaper : Supplied → Answer (Lettered ℕ)
+suppliedPaper (supplied.Refused n p) = refused n p
+suppliedPaper (supplied.At letter place) = given (record { letter = letter; plan = place })
 
 -- plans of zeros, which stand beside a refusal
 abbrev pub withoutLetter : {P : Type 0} → P → Lettered P
@@ -83,6 +87,16 @@ sequentialJudged r = judged (r .answer) (sequentialPaper (r .plan))
 abbrev pub variablesJudged : VariablesJudged → Beside variables.VariablesPlan (Judged variables.VariablesPlan Verdict)
 variablesJudged r = judged (r .answer) (variablesPaper (r .plan))
 
+abbrev pub closed : {P : Type 0} → ClosedAnswer → P → Beside P (Closed P)
+closed answer plan = record { answer = closedOn answer plan; plan = plan }
+
 abbrev pub stagedClosed : StagedClosed → Beside staged.StagedPlan (Closed staged.StagedPlan)
-stagedClosed r =
-    record { answer = closedOn (r .answer) (stagedPaper (r .plan)); plan = stagedPaper (r .plan) }
+stagedClosed r = closed (r .answer) (stagedPaper (r .plan))
+
+-- the same in the mode of fractional acceptance numbers
+abbrev pub fractionalJudged : FractionalJudged
+    → Beside fractional.FractionalPlan (Judged fractional.FractionalPlan Verdict)
+fractionalJudged r = judged (r .answer) (fractionalPaper (r .plan))
+
+abbrev pub fractionalClosed : FractionalClosed → Beside fractional.FractionalPlan (Closed fractional.FractionalPlan)
+fractionalClosed r = closed (r .answer) (fractionalPaper (r .plan))

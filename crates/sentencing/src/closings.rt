@@ -1,10 +1,11 @@
 // What next: a lot closed from its sample, with the next record; beside it the plan, all 0 beside a refusal.
 ghost use mathlib.Core.Path.{_≡_};
 ghost use Rattle.rules.specs.Refusals.{andThen};
-ghost use Rattle.rules.specs.Entries.{onRecord, closedWith, stagedCounts, closeSingle, closeStaged};
+ghost use Rattle.rules.specs.Entries.{onSupply, closedWith, stagedEvent, closeSingle, closeStaged};
 ghost use Rattle.plans.specs.Paper.{beside, zeroPlan};
 ghost use Rattle.entry.specs.Paper.{stagedPaper, noStages};
 ghost use Rattle.severity.specs.Paper.{recordPaper};
+ghost use Rattle.supply.specs.Paper.{supplyPaper};
 ghost use Rattle.closing.specs.Paper.{offeredPaper, closedOn, closedBeside, planClosed};
 ghost use Rattle.sentencing.specs.Paper.{stagedJudged, stagedClosed};
 use super::judging::StagedJudged;
@@ -17,15 +18,15 @@ use closing::SingleClosed;
 use entry::StagedPlan;
 use plans::UNKNOWN_FORM;
 use plans::VerdictAnswer;
-use severity::Record;
+use supply::Supply;
 
 // A lot closed from a single sample.
-pub fn close_single(old: Record, lot: Offered, book: &[u8], sample: &[u8]) -> SingleClosed
+pub fn close_single(old: Supply, lot: Offered, book: &[u8], sample: &[u8]) -> SingleClosed
     ensures { λ r. ⌜ closedBeside r
         ≡ beside zeroPlan planClosed
-        (closeSingle (recordPaper old) (offeredPaper lot) (now (book .entry)) (now (sample .entry))) ⌝ }
+        (closeSingle (supplyPaper old) (offeredPaper lot) (now (book .entry)) (now (sample .entry))) ⌝ }
 {
-    if severity::in_range(old) {
+    if supply::in_range(old) {
         let judged = judge_single(closing::asked_on(old, lot), book, sample);
         return closing::take_single(old, lot, judged);
     }
@@ -54,12 +55,12 @@ fn staged_closed(plan: StagedPlan, answer: ClosedAnswer) -> StagedClosed
 }
 
 // A lot that was judged on a staged plan is taken into its record.
-fn take_staged(old: Record, lot: Offered, judged: StagedJudged) -> StagedClosed
+fn take_staged(old: Supply, lot: Offered, judged: StagedJudged) -> StagedClosed
     ensures { λ r. ⌜ stagedClosed r
         ≡ beside noStages planClosed
         (andThen (stagedJudged judged .answer)
-        (λ j. onRecord (recordPaper old)
-        (closedWith (recordPaper old) (offeredPaper lot) (stagedCounts (recordPaper old) (offeredPaper lot)) j))) ⌝ }
+        (λ j. onSupply (supplyPaper old)
+        (closedWith (supplyPaper old) (stagedEvent (recordPaper (old .switching)) (offeredPaper lot)) j))) ⌝ }
 {
     let answer = judged.answer;
     let plan = judged.plan;
@@ -75,12 +76,12 @@ fn take_staged(old: Record, lot: Offered, judged: StagedJudged) -> StagedClosed
 }
 
 // A lot closed from a staged sample.
-pub fn close_staged(old: Record, lot: Offered, book: &[u8], sample: &[u8]) -> StagedClosed
+pub fn close_staged(old: Supply, lot: Offered, book: &[u8], sample: &[u8]) -> StagedClosed
     ensures { λ r. ⌜ stagedClosed r
         ≡ beside noStages planClosed
-        (closeStaged (recordPaper old) (offeredPaper lot) (now (book .entry)) (now (sample .entry))) ⌝ }
+        (closeStaged (supplyPaper old) (offeredPaper lot) (now (book .entry)) (now (sample .entry))) ⌝ }
 {
-    if severity::in_range(old) {
+    if supply::in_range(old) {
         let judged = judge_staged(closing::asked_on(old, lot), book, sample);
         return take_staged(old, lot, judged);
     }

@@ -2,10 +2,11 @@
 ghost use mathlib.Core.Path.{_≡_};
 ghost use Rattle.rules.specs.History.{ours};
 ghost use Rattle.rules.specs.Entries.{next};
-ghost use Rattle.severity.specs.Paper.{recordPaper, steppedPaper};
+ghost use Rattle.supply.specs.Paper.{supplyPaper, movedPaper};
 ghost use Rattle.history.specs.Paper.{Lists};
 
 mod closings;
+mod fractional;
 mod judging;
 mod planning;
 
@@ -14,6 +15,11 @@ pub use closing::close_total;
 pub use closings::StagedClosed;
 pub use closings::close_single;
 pub use closings::close_staged;
+pub use fractional::FractionalClosed;
+pub use fractional::FractionalJudged;
+pub use fractional::close_fractional;
+pub use fractional::fractional_plan;
+pub use fractional::judge_fractional;
 pub use gauge::screen;
 use history::Listed;
 pub use history::close_lot;
@@ -31,14 +37,14 @@ pub use planning::sequential_plan;
 pub use planning::single_plan;
 pub use planning::staged_plan;
 pub use planning::variables_plan;
-use severity::Record;
-use severity::Stepped;
+use supply::Moved;
+use supply::Supply;
 
-// What a history byte makes of a record.
-pub fn next(old: Record, byte: u32) -> Stepped
-    ensures { λ r. ⌜ steppedPaper r ≡ next ours (recordPaper old) byte ⌝ }
+// What a history byte makes of a supply.
+pub fn next(old: Supply, byte: u32) -> Moved
+    ensures { λ r. ⌜ movedPaper r ≡ next ours (supplyPaper old) byte ⌝ }
 {
-    severity::next(severity::ours(), old, byte)
+    supply::next(severity::ours(), old, byte)
 }
 
 // "From a fresh record, the severity after each byte is written to a lent buffer, the rest of which stays."

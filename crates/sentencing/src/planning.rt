@@ -8,7 +8,7 @@ ghost use Rattle.rules.specs.Book.{checkBook, onSound};
 ghost use Rattle.rules.specs.Entries.{singlePlan, stagedPlan, sequentialPlan, variablesPlan, lettered};
 ghost use Rattle.plans.specs.Paper.{askedPaper, beside, itself, zeroPlan, plannedPaper};
 ghost use Rattle.entry.specs.Paper.{stagedPaper, noStages, sequentialPaper, variablesPaper};
-ghost use Rattle.sentencing.specs.Paper.{refusalPaper, supplyPaper, placeFor, withoutLetter};
+ghost use Rattle.sentencing.specs.Paper.{refusalPaper, suppliedPaper, placeFor, withoutLetter};
 ghost use Rattle.sentencing.specs.Paper.{zeroSequential, zeroVariables};
 ghost use Rattle.sentencing.specs.Paper.{stagedPlanned, sequentialPlanned, variablesPlanned};
 use book::BookAnswer;
@@ -43,19 +43,19 @@ pub(crate) fn first_refusal(book: &[u8], number: u8, place: usize) -> Refusal
 }
 
 // What a book supplies to a lot: the lot's Table 1 letter, and the place of the entry under its key.
-enum Supply {
+enum Supplied {
     Refused(u8, usize),
     At(u8, usize),
 }
 
 // "A plan is looked up by severity (sections 2 to 4), Table 1 letter and column": one way for every kind.
-fn supplied(lot: Asked, kind: usize, book: &[u8]) -> Supply
-    ensures { λ r. ⌜ supplyPaper r ≡ placeFor kind (askedPaper lot) (now (book .entry)) ⌝ }
+fn look_up(lot: Asked, kind: usize, book: &[u8]) -> Supplied
+    ensures { λ r. ⌜ suppliedPaper r ≡ placeFor kind (askedPaper lot) (now (book .entry)) ⌝ }
 {
     match plans::asked_letter(lot) {
         LetterAnswer::Refused(number, place) => {
             let first = first_refusal(book, number, place);
-            Supply::Refused(first.number, first.place)
+            Supplied::Refused(first.number, first.place)
         }
         LetterAnswer::Given(letter) => match book::find(
             kind,
@@ -64,8 +64,8 @@ fn supplied(lot: Asked, kind: usize, book: &[u8]) -> Supply
             lot.column,
             book,
         ) {
-            Found::Refused(number, place) => Supply::Refused(number, place),
-            Found::At(place) => Supply::At(letter, place),
+            Found::Refused(number, place) => Supplied::Refused(number, place),
+            Found::At(place) => Supplied::At(letter, place),
         },
     }
 }
@@ -76,9 +76,9 @@ fn reduced_plan(lot: Asked, book: &[u8]) -> SinglePlanned
     ensures { λ r. ⌜ plannedPaper r
         ≡ beside zeroPlan itself (singlePlan (askedPaper lot) (now (book .entry))) ⌝ }
 {
-    match supplied(lot, entry::REDUCED, book) {
-        Supply::Refused(number, place) => plans::unplanned(number, place),
-        Supply::At(letter, place) => {
+    match look_up(lot, entry::REDUCED, book) {
+        Supplied::Refused(number, place) => plans::unplanned(number, place),
+        Supplied::At(letter, place) => {
             let from = 2 * place;
             let held = entry::reduced_at(&book[from..]);
             let n = plans::cut_to(lot.size, held.n);
@@ -165,9 +165,9 @@ pub fn staged_plan(lot: Asked, book: &[u8]) -> StagedPlanned
         ≡ beside (withoutLetter noStages) itself
         (lettered (askedPaper lot) (stagedPlan (askedPaper lot) (now (book .entry)))) ⌝ }
 {
-    match supplied(lot, entry::STAGED, book) {
-        Supply::Refused(number, place) => staged_unplanned(number, place),
-        Supply::At(letter, place) => {
+    match look_up(lot, entry::STAGED, book) {
+        Supplied::Refused(number, place) => staged_unplanned(number, place),
+        Supplied::At(letter, place) => {
             let from = 2 * place;
             let plan = entry::staged_at(&book[from..]);
             if (lot.size as u64) < total_size(plan) {
@@ -210,9 +210,9 @@ pub fn sequential_plan(lot: Asked, book: &[u8]) -> SequentialPlanned
         ≡ beside (withoutLetter zeroSequential) itself
         (lettered (askedPaper lot) (sequentialPlan (askedPaper lot) (now (book .entry)))) ⌝ }
 {
-    match supplied(lot, entry::SEQUENTIAL, book) {
-        Supply::Refused(number, place) => sequential_unplanned(number, place),
-        Supply::At(letter, place) => {
+    match look_up(lot, entry::SEQUENTIAL, book) {
+        Supplied::Refused(number, place) => sequential_unplanned(number, place),
+        Supplied::At(letter, place) => {
             let from = 2 * place;
             let plan = entry::sequential_at(&book[from..]);
             if lot.size < plan.nt as u32 {
@@ -249,9 +249,9 @@ pub fn variables_plan(lot: Asked, book: &[u8]) -> VariablesPlanned
         ≡ beside (withoutLetter zeroVariables) itself
         (lettered (askedPaper lot) (variablesPlan (askedPaper lot) (now (book .entry)))) ⌝ }
 {
-    match supplied(lot, entry::VARIABLES, book) {
-        Supply::Refused(number, place) => variables_unplanned(number, place),
-        Supply::At(letter, place) => {
+    match look_up(lot, entry::VARIABLES, book) {
+        Supplied::Refused(number, place) => variables_unplanned(number, place),
+        Supplied::At(letter, place) => {
             let from = 2 * place;
             let plan = entry::variables_at(&book[from..]);
             if lot.size < plan.n as u32 {

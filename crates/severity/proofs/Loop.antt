@@ -12,7 +12,7 @@ use lib.Seq.{set-out}
 use Rattle.rules.specs.Refusals.{refused, given}
 use Rattle.rules.specs.Severity.{Record, Event, step, inRange}
 use Rattle.rules.specs.History.{Work, ours, eventIn, byteOf, filled}
-use Rattle.rules.specs.Entries.{onRecord}
+use Rattle.rules.specs.Severity.{onRecord}
 use Rattle.rules.proofs.Histories.{From, from-refused}
 use Rattle.rules.proofs.Runs.{one-byte}
 use Rattle.severity.specs.declared.Record as declared-record

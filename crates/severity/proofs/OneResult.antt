@@ -14,7 +14,7 @@ use Rattle.severity.specs.declared.Record.{Record}
 use Rattle.severity.specs.declared.Lot.{Lot}
 use Rattle.severity.specs.declared.Lot.the-variants.{AddThree, AddTwo, ScoreZero, NotAccepted}
 use Rattle.severity.specs.declared.Origin.{Origin}
-use Rattle.severity.specs.declared.Origin.the-variants.{Typed, Sampled}
+use Rattle.severity.specs.declared.Origin.the-variants.{Typed, Sampled, Fraction}
 use Rattle.severity.specs.declared.Event.{Event}
 use Rattle.severity.specs.declared.Event.the-variants as event
 use Rattle.severity.specs.declared.Stepped.{Stepped}
@@ -57,13 +57,19 @@ lot-back AddTwo = refl
 lot-back ScoreZero = refl
 lot-back NotAccepted = refl
 
+-- of functions that answer a lot
+pub lot-one : (a b : Lot) → lotPaper a ≡ lotPaper b → a ≡ b
+lot-one = read-back lotPaper lotBack lot-back
+
 abbrev pub originBack : paper.Origin → Origin
 originBack paper.typed = Typed
 originBack paper.sampled = Sampled
+originBack (paper.onFraction letter column total) = Fraction letter column total
 
 origin-back : (a : Origin) → originBack (originPaper a) ≡ a
 origin-back Typed = refl
 origin-back Sampled = refl
+origin-back (Fraction letter column total) = refl
 
 abbrev pub eventBack : paper.Event → Event
 eventBack (paper.lot o l) = event.Lot (originBack o) (lotBack l)
@@ -85,7 +91,7 @@ event-back event.Unknown = refl
 pub event-one : (a b : Event) → eventPaper a ≡ eventPaper b → a ≡ b
 event-one = read-back eventPaper eventBack event-back
 
--- of update and next
+-- of update
 pub stepped-one : (a b : Stepped) → steppedPaper a ≡ steppedPaper b → a ≡ b
 stepped-one (stepped.Refused n k) (stepped.Refused m j) e = cc
 stepped-one (stepped.Refused n k) (stepped.Given s) e = absurd (refused-given e)

@@ -7,12 +7,11 @@ use lib.ListN.{length}
 use Rattle.rules.specs.Refusals.{Answer, refused, given}
 use Rattle.rules.specs.Severity as paper
 use Rattle.rules.specs.History as histories
-use Rattle.rules.specs.Entries.{onRecord}
 use Rattle.severity.specs.declared.Work.{Work}
 use Rattle.severity.specs.declared.Lot.{Lot}
 use Rattle.severity.specs.declared.Lot.the-variants.{AddThree, AddTwo, ScoreZero, NotAccepted}
 use Rattle.severity.specs.declared.Origin.{Origin}
-use Rattle.severity.specs.declared.Origin.the-variants.{Typed, Sampled}
+use Rattle.severity.specs.declared.Origin.the-variants.{Typed, Sampled, Fraction}
 use Rattle.severity.specs.declared.Event.{Event}
 use Rattle.severity.specs.declared.Event.the-variants as event
 use Rattle.severity.specs.declared.Record.{Record}
@@ -31,6 +30,7 @@ lotPaper NotAccepted = paper.notAccepted
 abbrev pub originPaper : Origin → paper.Origin
 originPaper Typed = paper.typed
 originPaper Sampled = paper.sampled
+originPaper (Fraction letter column total) = paper.onFraction letter column total
 
 abbrev pub eventPaper : Event → paper.Event
 eventPaper (event.Lot o l) = paper.lot (originPaper o) (lotPaper l)
@@ -82,5 +82,5 @@ pub record Walking (w : histories.Work) (start : paper.Record) (h out buffer : L
 
 -- A walk's whole promise: the answer, and what the buffer then holds.
 pub record Walks (w : histories.Work) (start : paper.Record) (h out last : List ℕ) (r : Stepped) : Type 0 where
-  pub answer : steppedPaper r ≡ onRecord start (histories.afterFrom start (histories.past w h (length h)))
+  pub answer : steppedPaper r ≡ paper.onRecord start (histories.afterFrom start (histories.past w h (length h)))
   pub buffer : last ≡ writtenFrom w start h out (takenBy (steppedPaper r) (length h))

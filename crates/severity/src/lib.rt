@@ -8,7 +8,7 @@ ghost use Rattle.rules.specs.Severity.{lotTightened, onLot, onResubmitted, onOr
 ghost use Rattle.rules.specs.Severity.{onNormal, onTightened, scoreAndWindow, noScoreOrWindow, runAndCount};
 ghost use Rattle.rules.specs.Severity.{noRunOrCount};
 ghost use Rattle.rules.specs.History.{ours, eventIn, byteOfLot, byteOf};
-ghost use Rattle.rules.specs.Entries.{onRecord, next};
+ghost use Rattle.rules.specs.Severity.{onRecord};
 ghost use Rattle.severity.specs.Paper.{workPaper, lotPaper, eventPaper, recordPaper, steppedPaper, Walks};
 
 // The severities.
@@ -54,10 +54,12 @@ pub enum Lot {
     NotAccepted,
 }
 
-// How an original lot entered: typed as a history byte, or closed from its plan and sample.
+// How an original lot entered: typed as a history byte; closed from its plan and sample; or so on a fractional plan,
+// by its letter, its column and its total, which a closing holds at 2.
 pub enum Origin {
     Typed,
     Sampled,
+    Fraction(u8, u8, u8),
 }
 
 pub enum Event {
@@ -357,7 +359,7 @@ pub fn in_range(old: Record) -> bool
 }
 
 // The event of a history byte.
-fn event_of(work: Work, byte: u32) -> Event
+pub fn event_of(work: Work, byte: u32) -> Event
     ensures { λ r. ⌜ eventPaper r ≡ eventIn (workPaper work) byte ⌝ }
 {
     match byte {
@@ -458,11 +460,4 @@ pub fn update(old: Record, event: Event) -> Stepped
     let byte = [byte_of(event)];
     let mut unread = [0u8; 1];
     walk(ours(), old, &byte, &mut unread)
-}
-
-// What a history byte makes of a record.
-pub fn next(work: Work, old: Record, byte: u32) -> Stepped
-    ensures { λ r. ⌜ steppedPaper r ≡ next (workPaper work) (recordPaper old) byte ⌝ }
-{
-    update(old, event_of(work, byte))
 }

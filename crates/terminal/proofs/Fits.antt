@@ -1,5 +1,5 @@
 -- What the terminal hands over fits its numbers: a refusal's place is at most 32,768, the items or readings used are at
--- most 14,000, and what is written to a lent record has seven bytes.
+-- most 14,000, and what is written to a lent record has ten bytes.
 -- Assumes nothing.
 use Prim.Native.Nat.{ℕ, zero, suc, _+_, _*_, _≤_}
 use mathlib.Core.Path.{_≡_, refl, sym, ap, _∙_}
@@ -19,9 +19,10 @@ use Rattle.rules.specs.Sequential.{SequentialPlan}
 use Rattle.rules.specs.Variables.{VariablesPlan}
 use Rattle.rules.specs.Book.{Walk, ends, broken, short, sound, brokenAt, Checked, checkedAs, checkBook, sections, kinds}
 use Rattle.rules.specs.Entries.{Asked, judgeSingle, judgeStaged, judgeSequential, judgeVariables, Closed, Offered}
-use Rattle.rules.specs.Entries.{askedOn, closeSingle, closeStaged}
-use Rattle.rules.specs.Severity.{inRange}
-use Rattle.rules.specs.Terminal.{recordBytes, recordIn}
+use Rattle.rules.specs.Entries.{askedOn, closeSingle, closeStaged, judgeFractional, closeFractional}
+use Rattle.rules.specs.Fractional.{FractionalPlan}
+use Rattle.rules.specs.Supply.{Supply, supplyInRange}
+use Rattle.rules.specs.Terminal.{recordBytes, supplyIn}
 use Rattle.rules.specs.PlanRules.{StagedRight, SequentialRight}
 use Rattle.rules.specs.Reporting.{NoRow, Reports, OnBook}
 use Rattle.rules.specs.Judging.{EndsAtStage}
@@ -40,8 +41,9 @@ use Rattle.rules.proofs.Refusals.{nothing-wrong, refused-place}
 use Rattle.rules.proofs.EntryLaws.{on-book}
 use Rattle.rules.proofs.Deciding.{never-past}
 use Rattle.rules.proofs.LookUp.{broken-unsound}
-use Rattle.rules.proofs.GivenPlans.{single-given, staged-given, sequential-given, variables-given}
+use Rattle.rules.proofs.GivenPlans.{single-given, fractional-given, staged-given, sequential-given, variables-given}
 use Rattle.rules.proofs.Demands.Two as two
+use Rattle.rules.proofs.Demands.Fractional as fractions
 use Rattle.terminal.proofs.Lending.{in-range-length}
 
 -- a broken book's byte is within the largest book
@@ -171,27 +173,48 @@ module _ (q : Asked) (book sample : List ℕ) where
         → verdictOn v plan ≡ judgeVariables upper q book limit sample → VerdictFits (verdictAnswer v)
     variables-fits = verdict-fits book (two.judge-variables-refused q book sample upper limit) variables-used
 
--- A lot that is closed has a record in range, and so of seven bytes, and is judged as it is judged alone.
+-- the same in the mode of fractions
+module _ (s : Supply) (o : Offered) (book sample : List ℕ) where
+  fractional-used : (j : Judged FractionalPlan Verdict) → judgeFractional s o book sample ≡ given j
+      → j .verdict .used ≤ 14000
+  fractional-used j e =
+      let g = fractions.judge-fractional-given s o book sample j .0 e in
+      let u : j .plan .plan .n ≡ j .verdict .used = ap (λ (v : Verdict). v .used) (g .2 .verdict) in
+      omega (arith, fractional-given (askedOn (s .switching) o) book (j .plan) (g .1) .few)
+
+  pub fractional-fits : (v : VerdictAnswer) (plan : FractionalPlan)
+      → verdictOn v plan ≡ judgeFractional s o book sample → VerdictFits (verdictAnswer v)
+  fractional-fits = verdict-fits book (fractions.judge-fractional-refused s o book sample) fractional-used
+
+-- A lot that is closed has a record in range, and so of ten bytes, and is judged as it is judged alone.
 closed-fits : {P : Type 0} {Wrong : ℕ → Type 0} {a : Answer (Closed P)} (bytes book : List ℕ) → OnBook book Wrong a
-    → ((c : Closed P) → a ≡ given c → (inRange (recordIn bytes) ≡ true) × (c .judged .verdict .used ≤ 14000))
+    → ((c : Closed P) → a ≡ given c → (supplyInRange (supplyIn bytes) ≡ true) × (c .judged .verdict .used ≤ 14000))
     → (v : ClosedAnswer) (plan : P) → closedOn v plan ≡ a → ClosedFits (closedPaper v) bytes
 closed-fits bytes book r few (closes.Refused n p) plan e = book-place-fits book r e
 closed-fits bytes book r few (closes.Given c) plan e =
     let f = few _ (sym e) in (f .1, in-range-length bytes (f .0))
 
 module _ (bytes : List ℕ) (o : Offered) (book sample : List ℕ) where
-  pub single-closes : (v : ClosedAnswer) (plan : Plan) → closedOn v plan ≡ closeSingle (recordIn bytes) o book sample
+  pub single-closes : (v : ClosedAnswer) (plan : Plan) → closedOn v plan ≡ closeSingle (supplyIn bytes) o book sample
       → ClosedFits (closedPaper v) bytes
   single-closes =
-      closed-fits bytes book (two.close-single-refused (recordIn bytes) o book sample)
+      closed-fits bytes book (two.close-single-refused (supplyIn bytes) o book sample)
       (λ c e.
-      let k = two.close-single-given (recordIn bytes) o book sample c .0 e in
-      (k .in-range, single-used (askedOn (recordIn bytes) o) book sample (c .judged) (k .as-judged)))
+      let k = two.close-single-given (supplyIn bytes) o book sample c .0 e in
+      (k .in-range, single-used (askedOn (supplyIn bytes .switching) o) book sample (c .judged) (k .as-judged)))
 
   pub staged-closes : (v : ClosedAnswer) (plan : StagedPlan)
-      → closedOn v plan ≡ closeStaged (recordIn bytes) o book sample → ClosedFits (closedPaper v) bytes
+      → closedOn v plan ≡ closeStaged (supplyIn bytes) o book sample → ClosedFits (closedPaper v) bytes
   staged-closes =
-      closed-fits bytes book (two.close-staged-refused (recordIn bytes) o book sample)
+      closed-fits bytes book (two.close-staged-refused (supplyIn bytes) o book sample)
       (λ c e.
-      let k = two.close-staged-given (recordIn bytes) o book sample c .0 e in
-      (k .in-range, staged-used (askedOn (recordIn bytes) o) book sample (c .judged) (k .as-judged)))
+      let k = two.close-staged-given (supplyIn bytes) o book sample c .0 e in
+      (k .in-range, staged-used (askedOn (supplyIn bytes .switching) o) book sample (c .judged) (k .as-judged)))
+
+  pub fractional-closes : (v : ClosedAnswer) (plan : FractionalPlan)
+      → closedOn v plan ≡ closeFractional (supplyIn bytes) o book sample → ClosedFits (closedPaper v) bytes
+  fractional-closes =
+      closed-fits bytes book (fractions.close-fractional-refused (supplyIn bytes) o book sample)
+      (λ c e.
+      let k = fractions.close-fractional-given (supplyIn bytes) o book sample c .0 e in
+      (k .in-range, fractional-used (supplyIn bytes) o book sample (c .judged) (k .as-judged)))

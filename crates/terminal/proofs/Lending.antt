@@ -16,9 +16,10 @@ use Rattle.rules.specs.Single.{Plan}
 use Rattle.rules.specs.Staged.{StagedPlan}
 use Rattle.rules.specs.Sequential.{SequentialPlan}
 use Rattle.rules.specs.Variables.{VariablesPlan}
-use Rattle.rules.specs.Severity.{Record, inRange}
+use Rattle.rules.specs.Fractional.{FractionalPlan}
+use Rattle.rules.specs.Supply.{Supply, supplyOf, supplyInRange}
 use Rattle.rules.specs.Screen.{Shown, mean, meanAndVariance}
-use Rattle.rules.specs.Terminal.{statusOf, recordBytes, flag, bytesOf, hasForm, outOfForm, recordIn}
+use Rattle.rules.specs.Terminal.{statusOf, recordBytes, flag, bytesOf, hasForm, outOfForm, supplyIn}
 use Rattle.rules.specs.Terminal.{largestPlace, rowLength, rowBytes}
 use Rattle.rules.specs.History.{ours, byteOf}
 use Rattle.rules.specs.Entries.{next, Lettered, Closed}
@@ -26,17 +27,17 @@ use Rattle.rules.proofs.Demands.Two as two
 use Rattle.rules.proofs.Bools.{and-left}
 use Rattle.rules.proofs.Terminal.{form-missing}
 use Rattle.plans.specs.Paper.{verdictAnswer, verdictOn}
-use Rattle.plans.specs.declared.Outcome.the-variants as outcomes
 use Rattle.plans.specs.declared.VerdictAnswer.{VerdictAnswer}
 use Rattle.plans.specs.declared.VerdictAnswer.the-variants as verdicts
-use Rattle.severity.specs.Paper.{recordPaper}
-use Rattle.severity.specs.declared.Record as code
+use Rattle.supply.specs.Paper.{supplyPaper}
+use Rattle.supply.specs.declared.Supply as code
 use Rattle.history.specs.Paper.{listedPaper, Lists}
 use Rattle.history.specs.declared.Listed.{Listed}
 use Rattle.history.specs.declared.Listed.the-variants as listing
 use Rattle.closing.specs.Paper.{closedOn, closedPaper}
 use Rattle.closing.specs.declared.ClosedAnswer.{ClosedAnswer}
 use Rattle.closing.specs.declared.ClosedAnswer.the-variants as closes
+use Rattle.terminal.specs.Lent.{FractionalPlanLeft}
 use Rattle.terminal.specs.Lent.{LetterLeft, PlanLeft, StagedPlanLeft, SequentialPlanLeft, VariablesPlanLeft}
 use Rattle.terminal.specs.Lent.{OutcomeLeft, VerdictTold, VerdictLeft, ClosedLeft, NextLeft, ListLeft, ScreenLeft}
 pub use Rattle.rules.proofs.Answers.{met}
@@ -44,9 +45,10 @@ pub use Rattle.plans.proofs.Standing.{beside-answer, planned-refused, planned-g
 
 module _ (bytes : List ℕ) where
   -- the figures of bytes of the right form
-  abbrev held : Record
+  abbrev held : Supply
   held =
-      record {
+      supplyOf
+      (record {
         severity = getD bytes 0 0;
         score = getD bytes 1 0;
         run = getD bytes 2 0;
@@ -54,43 +56,55 @@ module _ (bytes : List ℕ) where
         window = getD bytes 4 0;
         steady = eqb (getD bytes 5 0) 1;
         permission = eqb (getD bytes 6 0) 1;
-      }
+      })
+      (record { run = getD bytes 7 0; letter = getD bytes 8 0; column = getD bytes 9 0 })
 
-  pub other-length : (length bytes ≡ recordBytes → ⊥) → outOfForm ≡ recordIn bytes
-  unfolding recordIn hasForm
-  other-length e = rw (ne-eqb (length bytes) 7 e)
+  pub other-length : (length bytes ≡ recordBytes → ⊥) → outOfForm ≡ supplyIn bytes
+  unfolding supplyIn hasForm
+  other-length e = rw (ne-eqb (length bytes) 10 e)
 
-  pub steady-over : length bytes ≡ recordBytes → 1 < getD bytes 5 0 → outOfForm ≡ recordIn bytes
-  unfolding recordIn hasForm
-  steady-over e h = rw (eq-eqb (length bytes) 7 e, lt-leb (getD bytes 5 0) 1 h)
+  pub steady-over : length bytes ≡ recordBytes → 1 < getD bytes 5 0 → outOfForm ≡ supplyIn bytes
+  unfolding supplyIn hasForm
+  steady-over e h = rw (eq-eqb (length bytes) 10 e, lt-leb (getD bytes 5 0) 1 h)
 
   pub permission-over : length bytes ≡ recordBytes → getD bytes 5 0 ≤ 1 → 1 < getD bytes 6 0
-      → outOfForm ≡ recordIn bytes
-  unfolding recordIn hasForm
+      → outOfForm ≡ supplyIn bytes
+  unfolding supplyIn hasForm
   permission-over e h k =
-      rw (eq-eqb (length bytes) 7 e, le-leb (getD bytes 5 0) 1 h, lt-leb (getD bytes 6 0) 1 k)
+      rw (eq-eqb (length bytes) 10 e, le-leb (getD bytes 5 0) 1 h, lt-leb (getD bytes 6 0) 1 k)
 
   pub of-form : length bytes ≡ recordBytes → getD bytes 5 0 ≤ 1 → getD bytes 6 0 ≤ 1
-      → held ≡ recordIn bytes
-  unfolding recordIn hasForm
-  of-form e h k = rw (eq-eqb (length bytes) 7 e, le-leb (getD bytes 5 0) 1 h, le-leb (getD bytes 6 0) 1 k)
+      → held ≡ supplyIn bytes
+  unfolding supplyIn hasForm
+  of-form e h k = rw (eq-eqb (length bytes) 10 e, le-leb (getD bytes 5 0) 1 h, le-leb (getD bytes 6 0) 1 k)
 
-  -- only seven bytes hold a record in range
-  pub in-range-length : inRange (recordIn bytes) ≡ true → length bytes ≡ recordBytes
+  -- only ten bytes hold a record in range
+  pub in-range-length : supplyInRange (supplyIn bytes) ≡ true → length bytes ≡ recordBytes
   unfolding hasForm
   in-range-length h = go (hasForm bytes) refl
     where
       go : (t : Bool) → hasForm bytes ≡ t → length bytes ≡ recordBytes
-      go true f = eqb-true (length bytes) 7 (and-left (eqb (length bytes) 7) _ f)
+      go true f = eqb-true (length bytes) 10 (and-left (eqb (length bytes) 10) _ f)
       go false f = absurd (false≢true (sym (form-missing bytes f) ∙ h))
 
--- seven stores fill seven bytes
-pub put-all : (bytes : List ℕ) (new : code.Record) (f g : ℕ) → length bytes ≡ recordBytes → f ≡ flag (new .steady)
-    → g ≡ flag (new .permission)
+-- ten stores fill ten bytes
+pub put-all : (bytes : List ℕ) (new : code.Supply) (f g : ℕ) → length bytes ≡ recordBytes
+    → f ≡ flag (new .switching .steady) → g ≡ flag (new .switching .permission)
     → set
-    (set (set (set (set (set (set bytes 0 (new .severity)) 1 (new .score)) 2 (new .run)) 3 (new .count)) 4
-    (new .window)) 5 f) 6 g
-    ≡ bytesOf (recordPaper new)
+    (set
+    (set
+    (set
+    (set
+    (set
+    (set (set (set (set bytes 0 (new .switching .severity)) 1 (new .switching .score)) 2 (new .switching .run)) 3
+    (new .switching .count)) 4
+    (new .switching .window)) 5
+    f) 6
+    g) 7
+    (new .clean .run)) 8
+    (new .clean .letter)) 9
+    (new .clean .column)
+    ≡ bytesOf (supplyPaper new)
 put-all [] new f g h p q = absurd (omega arith)
 put-all (_ ∷ []) new f g h p q = absurd (omega arith)
 put-all (_ ∷ _ ∷ []) new f g h p q = absurd (omega arith)
@@ -98,14 +112,17 @@ put-all (_ ∷ _ ∷ _ ∷ []) new f g h p q = absurd (omega arith)
 put-all (_ ∷ _ ∷ _ ∷ _ ∷ []) new f g h p q = absurd (omega arith)
 put-all (_ ∷ _ ∷ _ ∷ _ ∷ _ ∷ []) new f g h p q = absurd (omega arith)
 put-all (_ ∷ _ ∷ _ ∷ _ ∷ _ ∷ _ ∷ []) new f g h p q = absurd (omega arith)
-put-all (_ ∷ _ ∷ _ ∷ _ ∷ _ ∷ _ ∷ _ ∷ []) new f g h p q = rw (p, q)
-put-all (_ ∷ _ ∷ _ ∷ _ ∷ _ ∷ _ ∷ _ ∷ _ ∷ _) new f g h p q = absurd (omega arith)
+put-all (_ ∷ _ ∷ _ ∷ _ ∷ _ ∷ _ ∷ _ ∷ []) new f g h p q = absurd (omega arith)
+put-all (_ ∷ _ ∷ _ ∷ _ ∷ _ ∷ _ ∷ _ ∷ _ ∷ []) new f g h p q = absurd (omega arith)
+put-all (_ ∷ _ ∷ _ ∷ _ ∷ _ ∷ _ ∷ _ ∷ _ ∷ _ ∷ []) new f g h p q = absurd (omega arith)
+put-all (_ ∷ _ ∷ _ ∷ _ ∷ _ ∷ _ ∷ _ ∷ _ ∷ _ ∷ _ ∷ []) new f g h p q = rw (p, q)
+put-all (_ ∷ _ ∷ _ ∷ _ ∷ _ ∷ _ ∷ _ ∷ _ ∷ _ ∷ _ ∷ _ ∷ _) new f g h p q = absurd (omega arith)
 
 -- a history byte is given on a record of the right length only
-pub next-length : (bytes : List ℕ) (byte : ℕ) {t : Record} → given t ≡ next ours (recordIn bytes) byte
+pub next-length : (bytes : List ℕ) (byte : ℕ) {t : Supply} → given t ≡ next ours (supplyIn bytes) byte
     → length bytes ≡ recordBytes
 next-length bytes byte {t} e =
-    in-range-length bytes (two.next-given (recordIn bytes) ours byte t .0 (sym e) .0)
+    in-range-length bytes (two.next-given (supplyIn bytes) ours byte t .0 (sym e) .0)
 
 -- what the code's case tells
 pub told : {R A : Type 0} (paper : R → Answer A) {r x : R} → r ≡ x → paper x ≡ paper r
@@ -133,6 +150,28 @@ module _ {a : Answer Plan} {l m c : ℕ} where
 
   pub plan-given : {x : Plan} → given x ≡ a → PlanLeft a 0 l (x .letter) m (x .n) c (x .ac)
   plan-given e = record { status = told-given e; letter-left = rw (← e); n-left = rw (← e); ac-left = rw (← e) }
+
+module _ {a : Answer FractionalPlan} {l m c h : ℕ} where
+  pub fractional-refused : {n p s : ℕ} → refused n p ≡ a → s ≡ n + 256 * p → FractionalPlanLeft a s l l m m c c h h
+  fractional-refused e f =
+      record {
+        status = told-refused e f;
+        letter-left = rw (← e);
+        n-left = rw (← e);
+        ac-left = rw (← e);
+        share-left = rw (← e);
+      }
+
+  pub fractional-given : {x : FractionalPlan} → given x ≡ a
+      → FractionalPlanLeft a 0 l (x .plan .letter) m (x .plan .n) c (x .plan .ac) h (x .share)
+  fractional-given e =
+      record {
+        status = told-given e;
+        letter-left = rw (← e);
+        n-left = rw (← e);
+        ac-left = rw (← e);
+        share-left = rw (← e);
+      }
 
 module _ (a : Answer (Lettered StagedPlan)) {l s : ℕ} {row : List ℕ} where
   pub staged-refused : {n p t : ℕ} → refused n p ≡ a → t ≡ n + 256 * p → StagedPlanLeft a t l l s s row row
@@ -210,7 +249,7 @@ module _ {P : Type 0} {a : Answer (Closed P)} {bytes : List ℕ} {b u c : ℕ} w
   pub closed-refused : {n p s : ℕ} → refused n p ≡ a → s ≡ n + 256 * p → ClosedLeft a s bytes bytes b b u u c c
   closed-refused e f = record { outcome = outcome-refused e f; bytes-left = rw (← e); byte-left = rw (← e) }
 
-  pub closed-given : {x : Closed P} {bytes′ : List ℕ} {b′ u′ c′ : ℕ} → given x ≡ a → bytes′ ≡ bytesOf (x .recordAfter)
+  pub closed-given : {x : Closed P} {bytes′ : List ℕ} {b′ u′ c′ : ℕ} → given x ≡ a → bytes′ ≡ bytesOf (x .supplyAfter)
       → b′ ≡ flag (x .judged .verdict .accepted) → u′ ≡ x .judged .verdict .used → c′ ≡ byteOf (x .event)
       → ClosedLeft a 0 bytes bytes′ b b′ u u′ c c′
   closed-given e f g h k = record { outcome = outcome-given e g h; bytes-left = rw (← e) f; byte-left = rw (← e) k }
@@ -244,11 +283,11 @@ closed-left (closes.Given w) plan e t =
       byte-left = t .byte-left;
     })
 
-module _ {a : Answer Record} {bytes : List ℕ} where
+module _ {a : Answer Supply} {bytes : List ℕ} where
   pub next-refused : {n p s : ℕ} → refused n p ≡ a → s ≡ n + 256 * p → NextLeft a s bytes bytes
   next-refused e f = record { status = told-refused e f; bytes-left = rw (← e) }
 
-  pub next-given : {t : Record} {bytes′ : List ℕ} → given t ≡ a → bytes′ ≡ bytesOf t → NextLeft a 0 bytes bytes′
+  pub next-given : {t : Supply} {bytes′ : List ℕ} → given t ≡ a → bytes′ ≡ bytesOf t → NextLeft a 0 bytes bytes′
   next-given e f = record { status = told-given e; bytes-left = rw (← e) f }
 
 -- the list's answer in 64 bits, and its buffer

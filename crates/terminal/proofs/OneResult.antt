@@ -10,9 +10,11 @@ use Rattle.rules.specs.Single.{Plan}
 use Rattle.rules.specs.Staged.{StagedPlan}
 use Rattle.rules.specs.Sequential.{SequentialPlan}
 use Rattle.rules.specs.Variables.{VariablesPlan}
-use Rattle.rules.specs.Severity.{Record}
+use Rattle.rules.specs.Fractional.{FractionalPlan}
+use Rattle.rules.specs.Supply.{Supply}
 use Rattle.rules.specs.Entries.{Lettered, Closed}
 use Rattle.rules.specs.Screen.{Shown}
+use Rattle.terminal.specs.Lent.{FractionalPlanLeft}
 use Rattle.terminal.specs.Lent.{LetterLeft, PlanLeft, StagedPlanLeft, SequentialPlanLeft, VariablesPlanLeft}
 use Rattle.terminal.specs.Lent.{OutcomeLeft, ClosedLeft, NextLeft, ListLeft, ScreenLeft}
 
@@ -33,6 +35,18 @@ plan-one c d = (
   one (c .letter-left) (d .letter-left),
   one (c .n-left) (d .n-left),
   one (c .ac-left) (d .ac-left),
+)
+
+-- of hm_fractional_plan
+pub fractional-plan-one : {a : Answer FractionalPlan} {l n k h r l₁ n₁ k₁ h₁ s l₂ n₂ k₂ h₂ : ℕ}
+    → FractionalPlanLeft a r l l₁ n n₁ k k₁ h h₁ → FractionalPlanLeft a s l l₂ n n₂ k k₂ h h₂
+    → (r ≡ s) × (l₁ ≡ l₂) × (n₁ ≡ n₂) × (k₁ ≡ k₂) × (h₁ ≡ h₂)
+fractional-plan-one c d = (
+  one (c .status) (d .status),
+  one (c .letter-left) (d .letter-left),
+  one (c .n-left) (d .n-left),
+  one (c .ac-left) (d .ac-left),
+  one (c .share-left) (d .share-left),
 )
 
 -- of hm_staged_plan
@@ -72,7 +86,7 @@ variables-plan-one c d = (
   one (c .k-left) (d .k-left),
 )
 
--- of hm_single, hm_staged, hm_sequential and hm_variables_upper and _lower
+-- of hm_single, hm_staged, hm_sequential, hm_fractional, and hm_variables_upper and _lower
 pub verdict-one : {A : Type 0} {verdictOf : A → Verdict} {a : Answer A} {b u r b₁ u₁ s b₂ u₂ : ℕ}
     → OutcomeLeft verdictOf a r b b₁ u u₁ → OutcomeLeft verdictOf a s b b₂ u u₂ → (r ≡ s) × (b₁ ≡ b₂) × (u₁ ≡ u₂)
 verdict-one c d = (
@@ -81,7 +95,7 @@ verdict-one c d = (
   one (c .used-left) (d .used-left),
 )
 
--- of hm_close_single and hm_close_staged
+-- of hm_close_single, hm_close_staged and hm_close_fractional
 pub closed-one : {P : Type 0} {a : Answer (Closed P)} {m m₁ m₂ : List ℕ} {b u k r b₁ u₁ k₁ s b₂ u₂ k₂ : ℕ}
     → ClosedLeft a r m m₁ b b₁ u u₁ k k₁ → ClosedLeft a s m m₂ b b₂ u u₂ k k₂
     → ((r ≡ s) × (b₁ ≡ b₂) × (u₁ ≡ u₂)) × (m₁ ≡ m₂) × (k₁ ≡ k₂)
@@ -92,7 +106,7 @@ closed-one c d = (
 )
 
 -- of hm_next
-pub next-one : {a : Answer Record} {r s : ℕ} {m m₁ m₂ : List ℕ} → NextLeft a r m m₁ → NextLeft a s m m₂
+pub next-one : {a : Answer Supply} {r s : ℕ} {m m₁ m₂ : List ℕ} → NextLeft a r m m₁ → NextLeft a s m m₂
     → (r ≡ s) × (m₁ ≡ m₂)
 next-one c d = (one (c .status) (d .status), one (c .bytes-left) (d .bytes-left))
 

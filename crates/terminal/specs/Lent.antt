@@ -2,7 +2,7 @@
 -- and the lent memory hold then. A primed name is what stands at exit. Definitions only.
 use Prim.Native.Nat.{ℕ, _≤_}
 use mathlib.Core.Path.{_≡_}
-use mathlib.Core.Bool.{Bool, not}
+use mathlib.Core.Bool.{Bool, false, not}
 use mathlib.Core.List.{List}
 use lib.Dec.{eqb}
 use lib.Ieee.{Float}
@@ -14,7 +14,8 @@ use Rattle.rules.specs.Single.{Plan}
 use Rattle.rules.specs.Staged.{StagedPlan}
 use Rattle.rules.specs.Sequential.{SequentialPlan}
 use Rattle.rules.specs.Variables.{VariablesPlan}
-use Rattle.rules.specs.Severity.{Record}
+use Rattle.rules.specs.Fractional.{FractionalPlan}
+use Rattle.rules.specs.Supply.{Supply}
 use Rattle.rules.specs.History.{ours, byteOf, listed, leftIn}
 use Rattle.rules.specs.Entries.{Asked, Offered, Lettered, Closed}
 use Rattle.rules.specs.Screen.{Shown, mean, meanAndVariance}
@@ -26,6 +27,10 @@ asked severity size level column = record { severity = severity; size = size; le
 
 abbrev pub offered : Bool → ℕ → ℕ → ℕ → Offered
 offered again size level column = record { again = again; size = size; level = level; column = column }
+
+-- a lot that is only judged
+abbrev pub once : ℕ → ℕ → ℕ → Offered
+once size level column = offered false size level column
 
 -- 0 is an original lot, anything else a resubmitted one
 abbrev pub again : ℕ → Bool
@@ -40,6 +45,14 @@ pub record PlanLeft (answer : Answer Plan) (r letter letter′ n n′ ac ac′ :
   pub letter-left : letter′ ≡ leftBy (λ plan. plan .letter) answer letter
   pub n-left : n′ ≡ leftBy (λ plan. plan .n) answer n
   pub ac-left : ac′ ≡ leftBy (λ plan. plan .ac) answer ac
+
+pub record FractionalPlanLeft (answer : Answer FractionalPlan) (r letter letter′ n n′ ac ac′ share share′ : ℕ) : Type 0
+  where
+    pub status : r ≡ statusOf answer
+    pub letter-left : letter′ ≡ leftBy (λ p. p .plan .letter) answer letter
+    pub n-left : n′ ≡ leftBy (λ p. p .plan .n) answer n
+    pub ac-left : ac′ ≡ leftBy (λ p. p .plan .ac) answer ac
+    pub share-left : share′ ≡ leftBy (λ p. p .share) answer share
 
 -- the plan of an answer that has a letter too
 abbrev pub planAlone : {P : Type 0} → Answer (Lettered P) → Answer P
@@ -89,10 +102,10 @@ VerdictTold = OutcomeLeft (λ v. v)
 pub record ClosedLeft {P : Type 0} (answer : Answer (Closed P)) (r : ℕ) (bytes bytes′ : List ℕ)
     (accepted accepted′ used used′ byte byte′ : ℕ) : Type 0 where
   pub outcome : OutcomeLeft (λ c. c .judged .verdict) answer r accepted accepted′ used used′
-  pub bytes-left : bytes′ ≡ leftBy (λ c. bytesOf (c .recordAfter)) answer bytes
+  pub bytes-left : bytes′ ≡ leftBy (λ c. bytesOf (c .supplyAfter)) answer bytes
   pub byte-left : byte′ ≡ leftBy (λ c. byteOf (c .event)) answer byte
 
--- What is told has room: a place up to 32,768, up to 14,000 items or readings used, and a lent record of seven bytes.
+-- What is told has room: a place up to 32,768, up to 14,000 items or readings used, and a lent record of ten bytes.
 abbrev pub VerdictFits : Answer Verdict → Type 0
 VerdictFits (refused n p) = p ≤ 32768
 VerdictFits (given v) = v .used ≤ 14000
@@ -101,7 +114,7 @@ abbrev pub ClosedFits : {P : Type 0} → Answer (Closed P) → List ℕ → Type
 ClosedFits (refused n p) bytes = p ≤ 32768
 ClosedFits (given c) bytes = (c .judged .verdict .used ≤ 14000) × (length bytes ≡ recordBytes)
 
-pub record NextLeft (answer : Answer Record) (r : ℕ) (bytes bytes′ : List ℕ) : Type 0 where
+pub record NextLeft (answer : Answer Supply) (r : ℕ) (bytes bytes′ : List ℕ) : Type 0 where
   pub status : r ≡ statusOf answer
   pub bytes-left : bytes′ ≡ leftBy bytesOf answer bytes
 

@@ -2,5 +2,5 @@
 // refusal's number in the low byte and its place above it; a refusal writes nothing.
 pub mod judging;
 pub mod planning;
-pub mod supply;
+pub mod records;
 mod telling;

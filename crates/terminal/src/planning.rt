@@ -6,11 +6,11 @@ ghost use lib.ListN.{length, set, drop};
 ghost use lib.Seq.{sets};
 ghost use Rattle.rules.specs.Codes.{tableOneLetter};
 ghost use Rattle.rules.specs.Numbers.{numberBytes};
-ghost use Rattle.rules.specs.Entries.{singlePlan, stagedPlan, sequentialPlan, variablesPlan, lettered};
+ghost use Rattle.rules.specs.Entries.{singlePlan, fractionalPlan, stagedPlan, sequentialPlan, variablesPlan, lettered};
 ghost use Rattle.rules.specs.Terminal.{statusOf, rowLength, rowBytes};
 ghost use Rattle.entry.specs.Paper.{stagedPaper};
-ghost use Rattle.terminal.specs.Lent.{asked, LetterLeft, PlanLeft, StagedPlanLeft, SequentialPlanLeft};
-ghost use Rattle.terminal.specs.Lent.{VariablesPlanLeft, bookChecked};
+ghost use Rattle.terminal.specs.Lent.{asked, LetterLeft, PlanLeft, FractionalPlanLeft, StagedPlanLeft};
+ghost use Rattle.terminal.specs.Lent.{SequentialPlanLeft, VariablesPlanLeft, bookChecked};
 use super::telling::status;
 use book::BookAnswer;
 use entry::StagedPlan;
@@ -67,6 +67,45 @@ pub extern "C" fn hm_plan(
             *letter = planned.plan.letter;
             *n = planned.plan.n;
             *ac = planned.plan.ac;
+            0
+        }
+    }
+}
+
+// The single plan of a lot in the mode of fractions: `share` 2 is one half, 3 one third, 0 a whole Ac.
+#[no_mangle]
+pub extern "C" fn hm_fractional_plan(
+    size: u32,
+    level: u32,
+    column: u32,
+    severity: u32,
+    book: &[u8],
+    letter: &mut u8,
+    n: &mut u16,
+    ac: &mut u16,
+    share: &mut u8,
+) -> u32
+    ensures { λ r. ⌜ FractionalPlanLeft (fractionalPlan (asked severity size level column) (now (book .entry))) r
+        (now (letter .entry)) (now (letter .exit))
+        (now (n .entry)) (now (n .exit))
+        (now (ac .entry)) (now (ac .exit))
+        (now (share .entry)) (now (share .exit)) ⌝ }
+{
+    let lot = Asked {
+        severity,
+        size,
+        level,
+        column,
+    };
+    let planned = sentencing::fractional_plan(lot, book);
+    let answer = planned.answer;
+    match answer {
+        Outcome::Refused(number, place) => status(number, place),
+        Outcome::Given => {
+            *letter = planned.plan.plan.letter;
+            *n = planned.plan.plan.n;
+            *ac = planned.plan.plan.ac;
+            *share = planned.plan.share;
             0
         }
     }

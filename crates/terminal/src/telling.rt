@@ -2,16 +2,18 @@
 ghost use mathlib.Core.Path.{_≡_};
 ghost use Prim.Native.Nat.{_+_, _*_, _≤_, min};
 ghost use lib.ListN.{length};
-ghost use Rattle.rules.specs.Terminal.{recordBytes, largestPlace, flag, bytesOf, outOfForm, recordIn};
+ghost use Rattle.rules.specs.Terminal.{recordBytes, largestPlace, flag, bytesOf, outOfForm, supplyIn};
 ghost use Rattle.plans.specs.Paper.{verdictAnswer};
-ghost use Rattle.severity.specs.Paper.{recordPaper};
+ghost use Rattle.supply.specs.Paper.{supplyPaper};
 ghost use Rattle.closing.specs.Paper.{closedPaper};
 ghost use Rattle.terminal.specs.Lent.{VerdictFits, VerdictTold, ClosedFits, ClosedLeft};
 use closing::ClosedAnswer;
 use plans::VerdictAnswer;
 use severity::Record;
+use supply::CleanRun;
+use supply::Supply;
 
-const RECORD_BYTES: usize = 7;
+const RECORD_BYTES: usize = 10;
 
 // A refusal's status: its number in the low byte, its place above it.
 pub(crate) fn status(number: u8, place: usize) -> u32
@@ -63,11 +65,11 @@ pub(crate) fn tell_verdict(answer: VerdictAnswer, accepted: &mut u8, used: &mut 
     }
 }
 
-// A record that no length and no byte of another form can stand for: out of range.
-fn out_of_form() -> Record
-    ensures { λ r. ⌜ recordPaper r ≡ outOfForm ⌝ }
+// What bytes of another length or form are read as: a record out of range.
+fn out_of_form() -> Supply
+    ensures { λ r. ⌜ supplyPaper r ≡ outOfForm ⌝ }
 {
-    Record {
+    let switching = Record {
         severity: 4,
         score: 0,
         run: 0,
@@ -75,12 +77,18 @@ fn out_of_form() -> Record
         window: 0,
         steady: false,
         permission: false,
-    }
+    };
+    let clean = CleanRun {
+        run: 0,
+        letter: 0,
+        column: 0,
+    };
+    Supply { switching, clean }
 }
 
 // The record that lent bytes hold.
-pub(crate) fn take_up(bytes: &[u8]) -> Record
-    ensures { λ r. ⌜ recordPaper r ≡ recordIn (now (bytes .entry)) ⌝ }
+pub(crate) fn take_up(bytes: &[u8]) -> Supply
+    ensures { λ r. ⌜ supplyPaper r ≡ supplyIn (now (bytes .entry)) ⌝ }
 {
     if bytes.len() != RECORD_BYTES {
         return out_of_form();
@@ -91,7 +99,7 @@ pub(crate) fn take_up(bytes: &[u8]) -> Record
     if 1 < bytes[6] {
         return out_of_form();
     }
-    Record {
+    let switching = Record {
         severity: bytes[0],
         score: bytes[1],
         run: bytes[2],
@@ -99,20 +107,29 @@ pub(crate) fn take_up(bytes: &[u8]) -> Record
         window: bytes[4],
         steady: bytes[5] == 1,
         permission: bytes[6] == 1,
-    }
+    };
+    let clean = CleanRun {
+        run: bytes[7],
+        letter: bytes[8],
+        column: bytes[9],
+    };
+    Supply { switching, clean }
 }
 
-pub(crate) fn put_back(bytes: &mut [u8], new: Record)
+pub(crate) fn put_back(bytes: &mut [u8], new: Supply)
     requires { ⌜ length (now bytes) ≡ recordBytes ⌝ }
-    ensures { λ _. ⌜ now (bytes .exit) ≡ bytesOf (recordPaper new) ⌝ }
+    ensures { λ _. ⌜ now (bytes .exit) ≡ bytesOf (supplyPaper new) ⌝ }
 {
-    bytes[0] = new.severity;
-    bytes[1] = new.score;
-    bytes[2] = new.run;
-    bytes[3] = new.count;
-    bytes[4] = new.window;
-    bytes[5] = as_byte(new.steady);
-    bytes[6] = as_byte(new.permission);
+    bytes[0] = new.switching.severity;
+    bytes[1] = new.switching.score;
+    bytes[2] = new.switching.run;
+    bytes[3] = new.switching.count;
+    bytes[4] = new.switching.window;
+    bytes[5] = as_byte(new.switching.steady);
+    bytes[6] = as_byte(new.switching.permission);
+    bytes[7] = new.clean.run;
+    bytes[8] = new.clean.letter;
+    bytes[9] = new.clean.column;
 }
 
 // A lot closed: the next record, the verdict, and the history byte that the lot stands for.
@@ -133,7 +150,7 @@ pub(crate) fn tell_closed(
     match answer {
         ClosedAnswer::Refused(number, place) => status(number, place),
         ClosedAnswer::Given(closed) => {
-            put_back(supply, closed.record_after);
+            put_back(supply, closed.supply_after);
             *accepted = as_byte(closed.verdict.accepted);
             *used = narrow(closed.verdict.used);
             let event = closed.event;

@@ -1,8 +1,9 @@
 -- `closing::take_single` meets its contract. Assumes nothing.
 use borrow.Author.Needs.{needs}
-use Rattle.rules.specs.Entries.{singleCounts}
+use Rattle.rules.specs.Entries.{singleEvent}
 use Rattle.plans.specs.Paper.{planPaper, zeroPlan}
 use Rattle.severity.specs.Paper.{recordPaper}
+use Rattle.supply.specs.Paper.{supplyPaper}
 use Rattle.closing.specs.Paper.{offeredPaper}
 use Rattle.closing.proofs.Closing.{taken-given}
 use Rattle.closing.proofs.take_single.Statement.{statement}
@@ -14,8 +15,8 @@ returns c = rw (c .before .before .answer .given .1) (c .unclosed .ensures)
 returns-2 : tie.Need-returns-2
 returns-2 c =
     let a = c .before .before .before .before .before .before .before .args in
-    taken-given zeroPlan (singleCounts (recordPaper (a .old)) (offeredPaper (a .lot))) _ (recordPaper (a .old))
-    (offeredPaper (a .lot)) _ (planPaper (a .judged .plan)) _ _
+    taken-given zeroPlan (singleEvent (recordPaper (a .old .switching)) (offeredPaper (a .lot))) _
+    (supplyPaper (a .old)) _ (planPaper (a .judged .plan)) _ _
     (c .before .enter .result)
     (c .before .before .before .before .answer2 .given .1) (c .before .before .single-event .ensures)
     (c .before .enter .ensures) (c .with-plan .ensures)

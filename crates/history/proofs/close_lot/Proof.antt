@@ -41,23 +41,23 @@ use denote.Triple.Walked.{says, Stays, stay-ref, stay-none, walkOf, AllGo, goes-
 use denote.Triple.Walked.{walk-meets}
 use denote.Triple.Clauses.{ensured, lasts}
 use denote.Exit.{yes}
-use Rattle.rules.specs.Severity.{step}
-use Rattle.rules.specs.Entries.{onRecord}
-use Rattle.severity.specs.Paper.{recordPaper, eventPaper, steppedPaper}
+use Rattle.rules.specs.Entries.{moved}
+use Rattle.severity.specs.Paper.{eventPaper}
+use Rattle.supply.specs.Paper.{supplyPaper, movedPaper}
 use Rattle.history.specs.Paper.{keptOf, Closes}
-use Rattle.severity.specs.declared.Record.{Record}
+use Rattle.supply.specs.declared.Supply.{Supply}
 use Rattle.severity.specs.declared.Event.{Event}
-use Rattle.severity.specs.declared.Stepped.{Stepped}
-use Rattle.severity.proofs.Record as T
-use Rattle.severity.proofs.Record.Laws as T′
+use Rattle.supply.specs.declared.Moved.{Moved}
+use Rattle.supply.proofs.Supply as T
+use Rattle.supply.proofs.Supply.Laws as T′
 use Rattle.severity.proofs.Event as E
 use Rattle.severity.proofs.Event.Laws as E′
-use Rattle.severity.proofs.Stepped as S
-use Rattle.severity.proofs.Stepped.Laws as S′
-use Rattle.severity.proofs.update as update
-use Rattle.severity.proofs.update.Symbol as update-def
-use Rattle.severity.proofs.update.Symbol.{name as #severity·update}
-use Rattle.severity.proofs.update.Met as update-thm
+use Rattle.supply.proofs.Moved as S
+use Rattle.supply.proofs.Moved.Laws as S′
+use Rattle.supply.proofs.update as update
+use Rattle.supply.proofs.update.Symbol as update-def
+use Rattle.supply.proofs.update.Symbol.{name as #supply·update}
+use Rattle.supply.proofs.update.Met as update-thm
 use Rattle.history.proofs.kept as kept
 use Rattle.history.proofs.kept.Symbol as kept-def
 use Rattle.history.proofs.kept.Symbol.{name as #history·kept}
@@ -68,42 +68,42 @@ use Rattle.history.proofs.close_lot.Statement as stated
 use Rattle.history.proofs.close_lot.Code as code
 
 abbrev Arg : Type 0
-Arg = RefT Record × (Event × Unit {0})
+Arg = RefT Supply × (Event × Unit {0})
 
 abbrev stayed : Stays (close.ended .signature .params) (close.ended .kept)
 stayed = (stay-ref (0 ∷ []) tt (plain (λ _. T.the-row)), (stay-none (λ _. E.the-row) yes, tt))
 
-abbrev vals : Record → List Val
+abbrev vals : Supply → List Val
 vals = LL.vals T.the-type T′.the-laws
 
 abbrev val : Event → Val
 val = EL.val E.the-type E′.the-laws
 
 -- what `update` ensures
-abbrev Updates : Record → Event → Stepped → Type 0
-Updates h e a = steppedPaper a ≡ onRecord (recordPaper h) (step (recordPaper h) (eventPaper e))
+abbrev Updates : Supply → Event → Moved → Type 0
+Updates h e a = movedPaper a ≡ moved (supplyPaper h) (eventPaper e)
 
 -- what `kept` ensures
-abbrev Keeps : Stepped → Record → Record → Type 0
-Keeps a h r = recordPaper r ≡ keptOf (steppedPaper a) (recordPaper h)
+abbrev Keeps : Moved → Supply → Supply → Type 0
+Keeps a h r = supplyPaper r ≡ keptOf (movedPaper a) (supplyPaper h)
 
 module _ {M : Type 1} (𝓤 : URA M) (H : Heap 𝓤) (A : Atoms 𝓤) (mem : Memory → SProp 𝓤) (run : Routine → Fun 𝓤) where
   abbrev Update : Contract 𝓤
   Update = tripleOf 𝓤 H A update.signature (update.spec 𝓤 H A mem run)
 
-  updates-of : (h : Record) (e : Event) (a : Stepped)
+  updates-of : (h : Supply) (e : Event) (a : Moved)
       → ent 𝓤 (ensured 𝓤 H A update.ended (update.clauses 𝓤 H A mem run) tt (h, (e, tt)) tt a) (fact 𝓤 (Updates h e a))
   updates-of h e a = exE 𝓤 _ (λ ws. snd∗ 𝓤 (sem 𝓤 H A (lasts update.ended tt (h, (e, tt)) ws)) (fact 𝓤 (Updates h e a)))
 
   abbrev Kept : Contract 𝓤
   Kept = tripleOf 𝓤 H A kept.signature (kept.spec 𝓤 H A mem run)
 
-  keeps-of : (a : Stepped) (h r : Record)
+  keeps-of : (a : Moved) (h r : Supply)
       → ent 𝓤 (ensured 𝓤 H A kept.ended (kept.clauses 𝓤 H A mem run) tt (a, (h, tt)) tt r) (fact 𝓤 (Keeps a h r))
   keeps-of a h r = exE 𝓤 _ (λ ws. snd∗ 𝓤 (sem 𝓤 H A (lasts kept.ended tt (a, (h, tt)) ws)) (fact 𝓤 (Keeps a h r)))
 
 module _ {M : Type 1} (𝓤 : URA M) (H : Heap 𝓤) (A : Atoms 𝓤) (W : Given 𝓤 H A) (at-mem : Memory → SProp 𝓤)
-    (run : Routine → Fun 𝓤) (κ : Lft) (q : Share) (b o : ℕ) (γ : GName) (h : Record) (e : Event) where
+    (run : Routine → Fun 𝓤) (κ : Lft) (q : Share) (b o : ℕ) (γ : GName) (h : Supply) (e : Event) where
   abbrev x : Arg
   x = (record { ptr = (b, o); name = γ; now = h }, (e, tt))
 
@@ -113,7 +113,7 @@ module _ {M : Type 1} (𝓤 : URA M) (H : Heap 𝓤) (A : Atoms 𝓤) (W : Given
   abbrev Post : Val → SProp 𝓤
   Post = walkOf 𝓤 H A close.ended stayed (close.clauses 𝓤 H A at-mem run) .post (((κ, tt), (q, tt), tt, x, at), tt)
 
-  exits : Is E.the-row e (val e ∷ []) → (r : Record) (a : Stepped) (v : Val) → Closes h e r a
+  exits : Is E.the-row e (val e ∷ []) → (r : Supply) (a : Moved) (v : Val) → Closes h e r a
       → ent 𝓤
       (sep 𝓤 (A .obs γ (T.the-row .coded .code r))
       (sep 𝓤 (A .bor κ (Body (mem (T.the-row)) b o γ)) (sep 𝓤 (A .lft κ q) (sem 𝓤 H A (S.the-row .own a (v ∷ []))))))
@@ -141,7 +141,7 @@ module _ {M : Type 1} (𝓤 : URA M) (H : Heap 𝓤) (A : Atoms 𝓤) (W : Given
       qed W (‵ (T.the-row .own h (vals h)) ∷ ‵ (E.the-row .own e (val e ∷ [])) ∷ []) ∵ nothing ! $ move ! (2 ∷ 0 ∷ []) $
       join ! $ move ! (1 ∷ 0 ∷ []) $ join ! $ nothing ! $ join ! $ frame ! $ done !
 
-  module _ (a : Stepped) (u : Val) where
+  module _ (a : Moved) (u : Val) where
     abbrev to-kept : Kept 𝓤 H A at-mem run .Ghost
     to-kept = ((tt, tt, tt, (a, (h, tt)), (u ∷ [], (vals h, tt))), tt)
 
@@ -152,7 +152,7 @@ module _ {M : Type 1} (𝓤 : URA M) (H : Heap 𝓤) (A : Atoms 𝓤) (W : Given
         join ! $ move ! (1 ∷ 0 ∷ []) $ join ! $ nothing ! $ join ! $ frame ! $ done !
 
   module _ (C : Calls 𝓤 H) (Λ : Loops 𝓤 H) (fm : FmC 𝓤 H (W .laws) C)
-      (known : Triple 𝓤 (C #severity·update) (Update 𝓤 H A at-mem run))
+      (known : Triple 𝓤 (C #supply·update) (Update 𝓤 H A at-mem run))
       (known′ : Triple 𝓤 (C #history·kept) (Kept 𝓤 H A at-mem run)) where
     walk : ent 𝓤 (onEntry 𝓤 H A close.signature (κ, tt) (q, tt) x at)
         (WpFn 𝓤 H C Λ code.function (vptr b o ∷ val e ∷ []) Post)
@@ -179,7 +179,7 @@ module _ {M : Type 1} (𝓤 : URA M) (H : Heap 𝓤) (A : Atoms 𝓤) (W : Given
         (and-then ! (load ! (from ! (stop !)) (look ! 9 refl)) (and-then ! (load ! (from ! (stop !)) (look ! 11 refl))
         (no-more !))) (λ u.
         use1 W
-        (later (some (λ (a : Stepped). (‵ ftrue ⊛ ‵ (S.the-row .own a (u ∷ [])))
+        (later (some (λ (a : Moved). (‵ ftrue ⊛ ‵ (S.the-row .own a (u ∷ [])))
         ⊛ raw (ensured 𝓤 H A update.ended (update.clauses 𝓤 H A at-mem run) tt (h, (e, tt)) tt a)))) (id⊢ 𝓤 _) $
         await ! tt $ pick ! (λ a.
         split ! $ move ! (1 ∷ []) $ use1 W (raw (fact 𝓤 (Updates h e a))) (updates-of 𝓤 H A at-mem run h e a) $
@@ -195,7 +195,7 @@ module _ {M : Type 1} (𝓤 : URA M) (H : Heap 𝓤) (A : Atoms 𝓤) (W : Given
         (and-then ! (load ! (from ! (stop !)) (look ! 8 refl)) (and-then ! (load ! (from ! (stop !)) (look ! 10 refl))
         (no-more !))) (λ v.
         use1 W
-        (later (some (λ (r : Record). (‵ ftrue ⊛ ‵ (T.the-row .own r (v ∷ [])))
+        (later (some (λ (r : Supply). (‵ ftrue ⊛ ‵ (T.the-row .own r (v ∷ [])))
         ⊛ raw (ensured 𝓤 H A kept.ended (kept.clauses 𝓤 H A at-mem run) tt (a, (h, tt)) tt r)))) (id⊢ 𝓤 _) $
         await ! tt $ pick ! (λ r.
         split ! $ move ! (1 ∷ []) $ use1 W (raw (fact 𝓤 (Keeps a h r))) (keeps-of 𝓤 H A at-mem run a h r) $
@@ -217,7 +217,7 @@ module _ {M : Type 1} (𝓤 : URA M) (H : Heap 𝓤) (A : Atoms 𝓤) (W : Given
 module _ {M : Type 1} (𝓤 : URA M) (H : Heap 𝓤) (A : Atoms 𝓤) (W : Given 𝓤 H A) (at-mem : Memory → SProp 𝓤)
     (run : Routine → Fun 𝓤) where
   close-walks : (C : Calls 𝓤 H) (Λ : Loops 𝓤 H) → FmC 𝓤 H (W .laws) C
-      → Triple 𝓤 (C #severity·update) (Update 𝓤 H A at-mem run) → Triple 𝓤 (C #history·kept) (Kept 𝓤 H A at-mem run)
+      → Triple 𝓤 (C #supply·update) (Update 𝓤 H A at-mem run) → Triple 𝓤 (C #history·kept) (Kept 𝓤 H A at-mem run)
       → Walks 𝓤 H A close.ended stayed (WpFn 𝓤 H C Λ code.function) (close.clauses 𝓤 H A at-mem run)
   close-walks C Λ fm known known′ =
       walked 𝓤 H A close.ended stayed (close.clauses 𝓤 H A at-mem run) (WpFn 𝓤 H C Λ code.function)
@@ -234,7 +234,7 @@ module _ {M : Type 1} (𝓤 : URA M) (H : Heap 𝓤) (A : Atoms 𝓤) (W : Given
   )
 
 close-meets : {M : Type 1} (𝓤 : URA M) (H : Heap 𝓤) (A : Atoms 𝓤) (W : Given 𝓤 H A) (at-mem : Memory → SProp 𝓤)
-    (run : Routine → Fun 𝓤) (𝓣 : Tables 𝓤 H) → Triple 𝓤 (𝓣 .C #severity·update) (Update 𝓤 H A at-mem run)
+    (run : Routine → Fun 𝓤) (𝓣 : Tables 𝓤 H) → Triple 𝓤 (𝓣 .C #supply·update) (Update 𝓤 H A at-mem run)
     → Triple 𝓤 (𝓣 .C #history·kept) (Kept 𝓤 H A at-mem run)
     → Meets 𝓤 H A close.signature (WpFn 𝓤 H (𝓣 .C) (𝓣 .Λ) code.function) (close.spec 𝓤 H A at-mem run)
 close-meets 𝓤 H A W at-mem run 𝓣 known known′ =
@@ -249,7 +249,7 @@ close-lot-spec 𝓤 H 𝓜 𝓖 𝓡 =
     (tables 𝓤 H 𝓜 𝓡 code.env .C) (tables 𝓤 H 𝓜 𝓡 code.env .Λ) #history·close-lot code.function
     (code.unfolded 𝓤 H 𝓜 𝓡)
     (close-meets 𝓤 H (𝓖 .A) (givenOf 𝓤 H 𝓜 𝓖) (𝓜 .mem) (𝓡 .run) (tablesOf 𝓤 H 𝓜 (tables 𝓤 H 𝓜 𝓡 code.env))
-    (cited 𝓤 H (Update 𝓤 H (𝓖 .A) (𝓜 .mem) (𝓡 .run)) 𝓜 𝓡 code.env #severity·update update-def.routine
-    code.calls-severity·update (update-thm.met 𝓤 H 𝓜 𝓖 𝓡))
+    (cited 𝓤 H (Update 𝓤 H (𝓖 .A) (𝓜 .mem) (𝓡 .run)) 𝓜 𝓡 code.env #supply·update update-def.routine
+    code.calls-supply·update (update-thm.met 𝓤 H 𝓜 𝓖 𝓡))
     (cited 𝓤 H (Kept 𝓤 H (𝓖 .A) (𝓜 .mem) (𝓡 .run)) 𝓜 𝓡 code.env #history·kept kept-def.routine
     code.calls-history·kept (kept-thm.met 𝓤 H 𝓜 𝓖 𝓡)))

@@ -12,8 +12,8 @@ returns c =
 
 returns-2 : tie.Need-returns-2
 returns-2 c =
-    let args = c .before .before .before .before .before .args in
-    let first = c .before .before .before .answer2 .given .1 in
+    let args = c .before .before .before .before .before .before .args in
+    let first = c .before .before .before .before .answer2 .given .1 in
     order-given (args .supply) (args .line) first (c .put-order .ensures)
 
 pub log-order-spec : {M : Type 1} → statement M

@@ -9,21 +9,28 @@ use mathlib.Core.Bool.{Bool, true, not}
 use mathlib.Core.List.{List, [], _∷_, _++_, map, reverse}
 use mathlib.Core.Logic.{_⊎_, inl, inr}
 use lib.IntN.{ℤ}
-use lib.ListN.{length}
+use lib.ListN.{length, take}
 use Rattle.rules.specs.Refusals.{Answer, given}
 use Rattle.rules.specs.Verdict.{Verdict, Judged}
 use Rattle.rules.specs.Codes.{normal, tightened, reduced, stopped}
+use Rattle.rules.specs.Severity.{Lot, Origin, typed, lot}
 use Rattle.rules.specs.Severity.{Event, resubmitted, corrective, Record, fresh, step, inRange}
+use Rattle.rules.specs.Supply.{Supply, freshSupply, countsOn, supplyInRange}
+use Rattle.rules.specs.CleanReading.{originsIn, allOrigins, presentLots, supplyRead}
+use Rattle.rules.specs.Fractional.{FractionalPlan}
 use Rattle.rules.specs.Reading.{severityRead, recordRead, staysIn, isResubmitted}
 use Rattle.rules.specs.Reading.{withoutResubmitted, severitiesAt, steadyIn, permissionIn}
 use Rattle.rules.specs.History.{Work, knows, eventOf, eventIn, afterFrom, after, past, afterHistory, withoutFours}
-use Rattle.rules.specs.Entries.{Asked, Offered, closeSingle, closeStaged}
-use Rattle.rules.specs.Entries.{closeTotal, next, onRecord, judgeSingle, judgeStaged, judgeTotal}
-use Rattle.rules.specs.Runs.{Call, single, staged, total, byte, sequential, variables, entered}
-use Rattle.rules.specs.Runs.{isResubmission, withoutResubmissions, recordBy, ran, eventsRan, bytesRan, event}
-use Rattle.rules.specs.Runs.{eventsRead, Corrects, Idle, Records, ClosesLot, ByCall, askedAt, AskedAsRead}
+use Rattle.rules.specs.Entries.{Asked, Offered, closeSingle, closeStaged, closeFractional}
+use Rattle.rules.specs.Entries.{closeTotal, next, moved, judgeSingle, judgeStaged, judgeTotal, judgeFractional}
+use Rattle.rules.specs.Runs.{Call, single, fractional, staged, total, byte, sequential, variables, entered}
+use Rattle.rules.specs.Runs.{isResubmission, withoutResubmissions, supplyBy, ran, eventsRan, bytesRan, event}
+use Rattle.rules.specs.Runs.{eventsRead, EntersAs, Corrects, Idle, Records, ClosesLot, ByCall, askedAt}
+use Rattle.rules.specs.Runs.{AskedAsRead}
 use Rattle.rules.specs.LogRuns.{callsAfter, heldFrom}
-use Rattle.rules.specs.Switching.{Every, AtMost25, Whole, NormalLeft, TightenedLeft, ReducedLeft, ReducedStarts}
+use Rattle.rules.specs.Switching.{AcceptedAfter, FractionCounts, Every, AtMost25, Whole, NormalLeft}
+use Rattle.rules.specs.Switching.{TightenedLeft, ReducedLeft}
+use Rattle.rules.specs.Switching.{ReducedStarts}
 use Rattle.rules.proofs.Demands.Two.{close-single-given, close-staged-given, close-total-given}
 use Rattle.rules.proofs.Range.{step-range, after-range}
 use Rattle.rules.proofs.Agreement.{agree, severity-agrees, orders-agree}
@@ -31,10 +38,15 @@ use Rattle.rules.proofs.Stays.{tightened-stays, stays-whole}
 use Rattle.rules.proofs.Switches.{stopped-left, stopped-corrected, tightened-left, reduced-left, reduced-starts}
 use Rattle.rules.proofs.Leaving.{normal-left}
 use Rattle.rules.proofs.LogRuns.{held-ran}
+use Rattle.rules.proofs.CleanRuns.{origins-newest}
+use Rattle.rules.proofs.FractionRuns.{half-in-run, third-in-run, call-fractions}
+use Rattle.rules.proofs.Moving.{typed-byte}
 use Rattle.rules.proofs.Resubmitted.{left-severities, without-resubmitted, resubmitted-in, resubmitted-reads}
 use Rattle.rules.proofs.Bytes.{corrective-byte, past-more, past-whole, past-append, past-put-in, past-without}
-use Rattle.rules.proofs.Runs.{ran-agrees, ran-agrees-bytes, ran-resubmitted, ran-without, one-call, by-call}
+use Rattle.rules.proofs.Runs.{ran-agrees, ran-as-read, ran-agrees-bytes, ran-resubmitted, ran-without, one-call}
+use Rattle.rules.proofs.Runs.{by-call}
 use Rattle.rules.proofs.Runs.{call-range, ran-range, ran-corrected, events-as-read, single-closes, staged-closes}
+use Rattle.rules.proofs.Runs.{fractional-closes, call-enters-as}
 use Rattle.rules.proofs.Runs.{total-closes, byte-records, event-records, sequential-idle, variables-idle}
 
 -- 1. The record folded over any history not refused has the severity of the written reading, and all its figures.
@@ -62,6 +74,10 @@ module _ (w : Work) (cs : List Call) where
       → ClosesLot w cs (single o book sample) (closeSingle (ran w cs) o book sample)
   run-closes-single o book sample = single-closes w cs o book sample
 
+  pub run-closes-fractional : (o : Offered) (book sample : List ℕ)
+      → ClosesLot w cs (fractional o book sample) (closeFractional (ran w cs) o book sample)
+  run-closes-fractional o book sample = fractional-closes w cs o book sample
+
   pub run-closes-staged : (o : Offered) (book sample : List ℕ)
       → ClosesLot w cs (staged o book sample) (closeStaged (ran w cs) o book sample)
   run-closes-staged o book sample = staged-closes w cs o book sample
@@ -73,9 +89,9 @@ module _ (w : Work) (cs : List Call) where
   pub run-takes-byte : (b : ℕ) → Records w cs (byte b) (next w (ran w cs) b) (λ t. t) (λ t. eventIn w b)
   run-takes-byte b = byte-records w cs b
 
-  -- close_lot
+  -- close_lot: the event as it counts on the record
   pub run-takes-event : (e : Event)
-      → Records w cs (event e) (onRecord (ran w cs) (step (ran w cs) e)) (λ t. t) (λ t. e)
+      → Records w cs (event e) (moved (ran w cs) e) (λ t. t) (λ t. countsOn (ran w cs) e)
   run-takes-event e = event-records w cs e
 
   pub run-drops-sequential : (q : Asked) (book sample : List ℕ) → Idle w cs (sequential q book sample)
@@ -86,44 +102,45 @@ module _ (w : Work) (cs : List Call) where
   run-drops-variables upper q book limit readings = variables-idle w cs upper q book limit readings
 
 module _ (w : Work) (cs : List Call) where
-  pub run-severity : ran w cs .severity ≡ severityRead (w .permission) (eventsRan w cs)
-  run-severity = severity-agrees (w .permission) (eventsRan w cs) (ran w cs) (ran-agrees w cs)
+  pub run-severity : ran w cs .switching .severity ≡ severityRead (w .permission) (eventsRan w cs)
+  run-severity = severity-agrees (w .permission) (eventsRan w cs) (ran w cs .switching) (ran-agrees w cs)
 
   -- the events found from the calls and the written reading alone
   pub run-events : eventsRead w cs ≡ eventsRan w cs
   run-events = events-as-read w cs
 
-  pub run-orders : (ran w cs .steady ≡ steadyIn (eventsRan w cs))
-      × (ran w cs .permission ≡ permissionIn (w .permission) (eventsRan w cs))
-  run-orders = orders-agree (w .permission) (eventsRan w cs) (ran w cs) (ran-agrees w cs)
+  pub run-orders : (ran w cs .switching .steady ≡ steadyIn (eventsRan w cs))
+      × (ran w cs .switching .permission ≡ permissionIn (w .permission) (eventsRan w cs))
+  run-orders = orders-agree (w .permission) (eventsRan w cs) (ran w cs .switching) (ran-agrees w cs)
 
-  pub run-record : ran w cs ≡ recordRead (w .permission) (eventsRan w cs)
-  run-record = agree (w .permission) (eventsRan w cs) (ran w cs) (ran-agrees w cs)
+  -- the whole record, with its clean run
+  pub run-record : ran w cs ≡ supplyRead (w .permission) (eventsRan w cs)
+  run-record = ran-as-read w cs
 
-  -- of the bytes that the calls stand for
-  pub run-record-bytes : ran w cs ≡ recordRead (w .permission) (map eventOf (bytesRan w cs))
-  run-record-bytes = agree (w .permission) (map eventOf (bytesRan w cs)) (ran w cs) (ran-agrees-bytes w cs)
+  -- of the bytes that the calls stand for; they do not tell the clean run
+  pub run-record-bytes : ran w cs .switching ≡ recordRead (w .permission) (map eventOf (bytesRan w cs))
+  run-record-bytes = agree (w .permission) (map eventOf (bytesRan w cs)) (ran w cs .switching) (ran-agrees-bytes w cs)
 
 -- lotlog's lines are such a run: the record that it holds after them has the severity and all the figures of the
 -- written reading of the events that the lines stand for, so that what is said of runs holds of lotlog.
 module _ (w : Work) (lines : List (List ℕ)) where
-  pub log-run : heldFrom w 1 (fresh (w .permission)) lines ≡ ran w (callsAfter w [] lines)
+  pub log-run : heldFrom w 1 (freshSupply (w .permission)) lines ≡ ran w (callsAfter w [] lines)
   unfolding ran
   log-run = held-ran w 1 [] lines
 
-  pub log-severity : heldFrom w 1 (fresh (w .permission)) lines .severity
+  pub log-severity : heldFrom w 1 (freshSupply (w .permission)) lines .switching .severity
       ≡ severityRead (w .permission) (eventsRan w (callsAfter w [] lines))
-  log-severity = ap (λ (r : Record). r .severity) log-run ∙ run-severity w (callsAfter w [] lines)
+  log-severity = ap (λ (s : Supply). s .switching .severity) log-run ∙ run-severity w (callsAfter w [] lines)
 
-  pub log-record : heldFrom w 1 (fresh (w .permission)) lines
-      ≡ recordRead (w .permission) (eventsRan w (callsAfter w [] lines))
+  pub log-record : heldFrom w 1 (freshSupply (w .permission)) lines
+      ≡ supplyRead (w .permission) (eventsRan w (callsAfter w [] lines))
   log-record = log-run ∙ run-record w (callsAfter w [] lines)
 
 -- A lot closed in a run, resubmitted or not, is judged at the severity that the written reading of the events so far
 -- finds.
 module _ (w : Work) (cs : List Call) (o : Offered) where
   as-read : {P : Type 0} (judge : Asked → Answer (Judged P Verdict)) (j : Judged P Verdict)
-      → judge (askedAt (ran w cs .severity) o) ≡ given j
+      → judge (askedAt (ran w cs .switching .severity) o) ≡ given j
       → judge (askedAt (severityRead (w .permission) (eventsRan w cs)) o) ≡ given j
   as-read judge j q = rw (← run-severity w cs) q
 
@@ -177,28 +194,29 @@ bytes-stopped w h b s =
 
 -- the severity after one call that entered an event
 after-call : (w : Work) (c : Call) (cs : List Call) (e : Event) → eventsRan w (c ∷ cs) ≡ e ∷ eventsRan w cs
-    → ran w (c ∷ cs) .severity ≡ severityRead (w .permission) (e ∷ eventsRan w cs)
+    → ran w (c ∷ cs) .switching .severity ≡ severityRead (w .permission) (e ∷ eventsRan w cs)
 after-call w c cs e q = run-severity w (c ∷ cs) ∙ ap (severityRead (w .permission)) q
 
 -- in a run by byte 9, or by that event handed to close_lot
-pub run-stopped : (w : Work) (c : Call) (cs : List Call) → ran w cs .severity ≡ stopped
-    → (ran w (c ∷ cs) .severity ≡ stopped) ⊎ Corrects c
+pub run-stopped : (w : Work) (c : Call) (cs : List Call) → ran w cs .switching .severity ≡ stopped
+    → (ran w (c ∷ cs) .switching .severity ≡ stopped) ⊎ Corrects c
 run-stopped w c cs h = go (one-call w c cs)
   where
     left : (e : Event) → eventsRan w (c ∷ cs) ≡ e ∷ eventsRan w cs → (e ≡ corrective → Corrects c)
         → (severityRead (w .permission) (e ∷ eventsRan w cs) ≡ stopped) ⊎ (e ≡ corrective)
-        → (ran w (c ∷ cs) .severity ≡ stopped) ⊎ Corrects c
+        → (ran w (c ∷ cs) .switching .severity ≡ stopped) ⊎ Corrects c
     left e q f (inl s) = inl (after-call w c cs e q ∙ s)
     left e q f (inr s) = inr (f s)
 
-    go : ByCall w c cs (λ e s. e ≡ corrective → Corrects c) → (ran w (c ∷ cs) .severity ≡ stopped) ⊎ Corrects c
-    go (inl q) = inl (ap (λ (r : Record). r .severity) (q .0) ∙ h)
+    go : ByCall w c cs (λ e s. e ≡ corrective → Corrects c)
+        → (ran w (c ∷ cs) .switching .severity ≡ stopped) ⊎ Corrects c
+    go (inl q) = inl (ap (λ (s : Supply). s .switching .severity) (q .0) ∙ h)
     go (inr x) =
         left (x .0) (x .1) (x .2)
         (stopped-left (w .permission) (x .0) (eventsRan w cs) (sym (run-severity w cs) ∙ h))
 
-pub run-corrected : (w : Work) (c : Call) (cs : List Call) → Corrects c → ran w cs .severity ≡ stopped
-    → ran w (c ∷ cs) .severity ≡ tightened
+pub run-corrected : (w : Work) (c : Call) (cs : List Call) → Corrects c → ran w cs .switching .severity ≡ stopped
+    → ran w (c ∷ cs) .switching .severity ≡ tightened
 run-corrected w c cs k h = ran-corrected w c cs k h
 
 -- Normal is left for tightened exactly by a lot not accepted that makes two among the last five of that stay, for
@@ -218,18 +236,19 @@ module _ (start : Bool) (e : Event) (es : List Event) where
 
 -- so of a run: a call leaves all as it was, or enters one event, which leaves the severity so
 module _ (w : Work) (c : Call) (cs : List Call) where
-  pub run-leaves-normal : ran w cs .severity ≡ normal → ByCall w c cs (NormalLeft (w .permission) (eventsRan w cs))
+  pub run-leaves-normal : ran w cs .switching .severity ≡ normal
+      → ByCall w c cs (NormalLeft (w .permission) (eventsRan w cs))
   run-leaves-normal h =
       by-call w c cs (NormalLeft (w .permission) (eventsRan w cs))
       (λ e. normal-left (w .permission) e (eventsRan w cs) (sym (run-severity w cs) ∙ h))
 
-  pub run-leaves-tightened : ran w cs .severity ≡ tightened
+  pub run-leaves-tightened : ran w cs .switching .severity ≡ tightened
       → ByCall w c cs (TightenedLeft (w .permission) (eventsRan w cs))
   run-leaves-tightened h =
       by-call w c cs (TightenedLeft (w .permission) (eventsRan w cs))
       (λ e. tightened-left (w .permission) e (eventsRan w cs) (sym (run-severity w cs) ∙ h))
 
-  pub run-leaves-reduced : ran w cs .severity ≡ reduced → ByCall w c cs ReducedLeft
+  pub run-leaves-reduced : ran w cs .switching .severity ≡ reduced → ByCall w c cs ReducedLeft
   run-leaves-reduced h =
       by-call w c cs ReducedLeft
       (λ e. reduced-left (w .permission) e (eventsRan w cs) (sym (run-severity w cs) ∙ h))
@@ -240,14 +259,14 @@ pub history-reduced : (start : Bool) (e : Event) (es : List Event) → (severity
     → severityRead start (e ∷ es) ≡ reduced → ReducedStarts start e es
 history-reduced start e es n h = reduced-starts start e es n h
 
-pub run-reduced : (w : Work) (c : Call) (cs : List Call) → (ran w cs .severity ≡ reduced → ⊥)
-    → ran w (c ∷ cs) .severity ≡ reduced
+pub run-reduced : (w : Work) (c : Call) (cs : List Call) → (ran w cs .switching .severity ≡ reduced → ⊥)
+    → ran w (c ∷ cs) .switching .severity ≡ reduced
     → (e : Event) × (eventsRan w (c ∷ cs) ≡ e ∷ eventsRan w cs) × ReducedStarts (w .permission) e (eventsRan w cs)
 run-reduced w c cs n h = go (one-call w c cs)
   where
     go : ByCall w c cs (λ e s. e ≡ corrective → Corrects c)
         → (e : Event) × (eventsRan w (c ∷ cs) ≡ e ∷ eventsRan w cs) × ReducedStarts (w .permission) e (eventsRan w cs)
-    go (inl q) = absurd (n (ap (λ (r : Record). r .severity) (sym (q .0)) ∙ h))
+    go (inl q) = absurd (n (ap (λ (s : Supply). s .switching .severity) (sym (q .0)) ∙ h))
     go (inr x) = (
       x .0,
       x .1,
@@ -272,11 +291,11 @@ bytes-without w h r known q =
 
 pub run-without : (w : Work) (cs : List Call)
     → (ran w (withoutResubmissions w cs) ≡ ran w cs)
-    × (after (w .permission) (withoutResubmitted (eventsRan w cs)) ≡ given (ran w cs))
+    × (after (w .permission) (withoutResubmitted (eventsRan w cs)) ≡ given (ran w cs .switching))
     × (severitiesAt (λ e. true) (w .permission) (withoutResubmitted (eventsRan w cs))
     ≡ severitiesAt (λ e. not (isResubmitted e)) (w .permission) (eventsRan w cs))
 run-without w cs =
-    let x = history-without (w .permission) (eventsRan w cs) (ran w cs) (ran-agrees w cs) in
+    let x = history-without (w .permission) (eventsRan w cs) (ran w cs .switching) (ran-agrees w cs) in
     (ran-without w cs, x .0, x .1)
 
 -- A resubmitted lot put in anywhere where the severity is not stopped refuses nothing of the rest and changes no
@@ -312,8 +331,53 @@ pub history-range : (r : Record) (es : List Event) (t : Record) → inRange r �
     → inRange t ≡ true
 history-range r es t h q = after-range r es t h q
 
-pub bench-range : (w : Work) (r : Record) (c : Call) → inRange r ≡ true → inRange (recordBy r (entered w r c)) ≡ true
-bench-range w r c h = call-range w r c h
+pub bench-range : (w : Work) (s : Supply) (c : Call) → supplyInRange s ≡ true
+    → supplyInRange (supplyBy s (entered w s c)) ≡ true
+bench-range w s c h = call-range w s c h
 
-pub run-range : (w : Work) (cs : List Call) → inRange (ran w cs) ≡ true
+pub run-range : (w : Work) (cs : List Call) → supplyInRange (ran w cs) ≡ true
 run-range w cs = ran-range w cs
+
+-- 7. Fractions in a run. A lot is judged by the clean run that the written reading of the events so far finds ..
+pub fractional-asked-as-read : (w : Work) (cs : List Call) (o : Offered) (book sample : List ℕ)
+    → judgeFractional (ran w cs) o book sample
+    ≡ judgeFractional (supplyRead (w .permission) (eventsRan w cs)) o book sample
+fractional-asked-as-read w cs o book sample =
+    ap (λ (s : Supply). judgeFractional s o book sample) (ran-as-read w cs)
+
+-- .. and accepted exactly where it has no nonconforming item, or one and the newest original lots of this stay were
+-- entered with clean samples on the same plan: under 1/2 the newest, under 1/3 the newest two.
+module _ (w : Work) (cs : List Call) (o : Offered) (book sample : List ℕ) (j : Judged FractionalPlan Verdict)
+    (g : judgeFractional (ran w cs) o book sample ≡ given j) where
+  abbrev After : ℕ → Type 0
+  After k =
+      AcceptedAfter k (j .plan .plan .letter) (o .column) (originsIn (w .permission) (eventsRan w cs))
+      (j .verdict .total) (j .verdict .accepted)
+
+  pub run-half : j .plan .share ≡ 2 → After 1
+  run-half s = half-in-run w cs o book sample j g s
+
+  pub run-third : j .plan .share ≡ 3 → After 2
+  run-third s = third-in-run w cs o book sample j g s
+
+-- So counts every lot that a call enters as on a fraction, closed or handed over. Only these two enter one: a lot
+-- closed in the old mode or in stages is sampled, and one typed as a byte is typed.
+module _ (w : Work) (c : Call) (cs : List Call) where
+  pub run-counts-fractions :
+      ByCall w c cs
+      (λ e s.
+      FractionCounts (severityRead (w .permission) (eventsRan w cs)) (originsIn (w .permission) (eventsRan w cs)) e)
+  run-counts-fractions = call-fractions w c cs
+
+  pub run-enters-as : ByCall w c cs (λ e s. EntersAs w c e)
+  run-enters-as = call-enters-as w c cs
+
+pub byte-is-typed : (w : Work) (b : ℕ) (o : Origin) (l : Lot) → eventIn w b ≡ lot o l → o ≡ typed
+byte-is-typed w b o l e = typed-byte o l w b e
+
+-- The lots of the stay are the newest of all that the run closed, typed or was handed over, as many as the present stay
+-- has.
+pub run-present : (w : Work) (cs : List Call)
+    → originsIn (w .permission) (eventsRan w cs)
+    ≡ take (length (presentLots (staysIn (w .permission) (eventsRan w cs)))) (allOrigins (eventsRan w cs))
+run-present w cs = origins-newest (w .permission) (eventsRan w cs)

@@ -29,8 +29,10 @@ use Rattle.rules.specs.Entries.{askedLetter, lookedUp, reducedSection, s
 use Rattle.rules.specs.Entries.{variablesSection, fromEntry, reducedPlan, singlePlan, plainPlan, stagedPlan}
 use Rattle.rules.specs.Entries.{sequentialPlan, variablesPlan, judgeSingle, judgeStaged, judgeSequential}
 use Rattle.rules.specs.Entries.{judgeVariables, totalOn, judgeTotal, next, Closed, Offered, askedOn}
-use Rattle.rules.specs.Entries.{singleCounts, stagedCounts, closeSingle, closeStaged, closeTotal}
-use Rattle.rules.specs.Severity.{lot, Record, fresh, step, inRange}
+use Rattle.rules.specs.Entries.{singleCounts, stagedCounts, singleEvent, stagedEvent, closeSingle, closeStaged}
+use Rattle.rules.specs.Entries.{closeTotal, moved}
+use Rattle.rules.specs.Severity.{sampled, Event, lot, Record, fresh}
+use Rattle.rules.specs.Supply.{Supply, countsOn, supplyInRange}
 use Rattle.rules.specs.Variables.{VariablesPlan, allInGauge, readingsOf, judgeReadings, sumZ, squaresZ}
 use Rattle.rules.specs.History.{Work, eventIn, afterHistory, listed, leftIn}
 use Rattle.rules.proofs.Histories.{from-refused, filled-length, filled-at, filled-past}
@@ -40,7 +42,7 @@ use Rattle.rules.specs.Judging.{EndsAtItem, EndsAtStage, ItemRows, Items
 use Rattle.rules.specs.Judging.{ReadingRows, ReadingsJudged, SampleRows, ScreenRows, Screened}
 use Rattle.rules.specs.Planning.{BufferListed, Closes, EventRows, FirstBad, LotRows, NoReduced}
 use Rattle.rules.specs.Planning.{PlainPlanRows, PlainPlanned, Plannable, SequentialPlanRows, SinglePlanRows}
-use Rattle.rules.specs.Planning.{SinglePlanned, StagedPlanRows, Supplies, TotalJudged, TotalRows}
+use Rattle.rules.specs.Planning.{SinglePlanned, StagedPlanRows, Supplies, Took, TotalJudged, TotalRows}
 use Rattle.rules.specs.Planning.{VariablesPlanRows, sequentialNeeds, stagedNeeds, variablesNeeds}
 use Rattle.rules.proofs.Bounded.{by-le}
 use Rattle.rules.proofs.Bools.{and-left, and-right}
@@ -52,12 +54,14 @@ use Rattle.rules.proofs.Deciding.{stages-decided, stages-report}
 use Rattle.rules.proofs.EntryLaws.{lot-reports, lot-passes, lot-given, on-book, sound-given}
 use Rattle.rules.proofs.EntryLaws.{fromBook, book-plan-reports, book-plan-given, two-given}
 use Rattle.rules.proofs.EntryLaws.{judged-on-book, judged-by, closing-reports, closing-given}
-use Rattle.rules.proofs.EntryLaws.{closing-on-book, closing-book-given, lettered-on-book, lettered-by}
+use Rattle.rules.proofs.EntryLaws.{closing-on-book, closing-book-given, lot-moves, lettered-on-book, lettered-by}
 use Rattle.rules.proofs.SMethod.{out-means, out-when, all-in}
 use Rattle.rules.proofs.SampleLaws.{items-refused, items-given}
 use Rattle.rules.proofs.SampleLaws.{readings-refused, readings-given, unfit, fits}
 use Rattle.rules.proofs.SampleLaws.{fit-so, unfit-when}
-use Rattle.rules.proofs.EventLaws.{step-refused, first-bad}
+use Rattle.rules.proofs.Moving.{move-took, took-moves, typed-counts, sampled-counts}
+use Rattle.rules.proofs.Supplies.{move-refused}
+use Rattle.rules.proofs.EventLaws.{first-bad}
 
 -- The letter of a size and level, and of a lot.
 module _ (size level : ℕ) where
@@ -340,85 +344,106 @@ module _ (q : Asked) where
             (ap (λ (v : Verdict). given (record { plan = j .plan; verdict = v })) (t .verdict))
 
 -- 5. A lot closed: 1 for a record out of range, and else as the lot is judged at the present severity. What is judged
--- is taken into the record: the severity is not stopped, so that the step is always given (`lot-steps`).
-module _ (r : Record) (o : Offered) (book sample : List ℕ) where
-  single-planned : (j : Judged Plan Verdict) → judgeSingle (askedOn r o) book sample ≡ given j
-      → SinglePlanned (askedOn r o) book (j .plan)
-  single-planned j e =
-      single-plan-given (askedOn r o) book (j .plan) .0 (judge-single-given (askedOn r o) book sample j .0 e .0)
+-- is taken into the record: the severity is not stopped, so that the step is always given (`lot-moves`).
+module _ (s : Supply) (o : Offered) (book sample : List ℕ) where
+  abbrev q : Asked
+  q = askedOn (s .switching) o
+
+  single-planned : (j : Judged Plan Verdict) → judgeSingle q book sample ≡ given j → SinglePlanned q book (j .plan)
+  single-planned j e = single-plan-given q book (j .plan) .0 (judge-single-given q book sample j .0 e .0)
 
   pub close-single-refused :
       OnBook book
-      (Row 1 (inRange r ≡ false)
-      (Then (SinglePlanRows (askedOn r o) book) (singlePlan (askedOn r o) book) (ItemRows (o .column) sample)))
-      (closeSingle r o book sample)
+      (Row 1 (supplyInRange s ≡ false)
+      (Then (SinglePlanRows q book) (singlePlan q book) (ItemRows (o .column) sample)))
+      (closeSingle s o book sample)
   unfolding closeSingle
   close-single-refused =
-      closing-on-book r o (judgeSingle (askedOn r o) book sample) (singleCounts r o) book
-      (judge-single-refused (askedOn r o) book sample) (λ j e. single-planned j e .lot .severity)
+      closing-on-book s (judgeSingle q book sample) (singleEvent (s .switching) o) book
+      (judge-single-refused q book sample)
+      (λ j e. lot-moves s o sampled (singleCounts (s .switching) o j) (single-planned j e .lot .severity))
 
   pub close-single-given : (c : Closed Plan)
-      → (closeSingle r o book sample ≡ given c)
-      ↔ Closes r o (judgeSingle (askedOn r o) book sample) (singleCounts r o) c
+      → (closeSingle s o book sample ≡ given c)
+      ↔ Closes s (judgeSingle q book sample) (singleEvent (s .switching) o) c
   unfolding closeSingle
   close-single-given =
-      closing-book-given r o (judgeSingle (askedOn r o) book sample) (singleCounts r o) book
+      closing-book-given s (judgeSingle q book sample) (singleEvent (s .switching) o)
+      (λ j e. sampled-counts s o (singleCounts (s .switching) o j)) book
       (λ j e. single-planned j e .book-sound)
 
-  staged-planned : (j : Judged StagedPlan Verdict) → judgeStaged (askedOn r o) book sample ≡ given j
-      → Supplies stagedSection (stagedNeeds) stagedOf (askedOn r o) book (j .plan)
-  staged-planned j e =
-      staged-plan-given (askedOn r o) book (j .plan) .0 (judge-staged-given (askedOn r o) book sample j .0 e .0)
+  staged-planned : (j : Judged StagedPlan Verdict) → judgeStaged q book sample ≡ given j
+      → Supplies stagedSection (stagedNeeds) stagedOf q book (j .plan)
+  staged-planned j e = staged-plan-given q book (j .plan) .0 (judge-staged-given q book sample j .0 e .0)
 
   pub close-staged-refused :
       OnBook book
-      (Row 1 (inRange r ≡ false)
-      (Then (StagedPlanRows (askedOn r o) book) (stagedPlan (askedOn r o) book)
+      (Row 1 (supplyInRange s ≡ false)
+      (Then (StagedPlanRows q book) (stagedPlan q book)
       (λ plan. SampleRows (EndsAtStage (o .column) plan sample) (MeetsInStage (o .column) plan sample))))
-      (closeStaged r o book sample)
+      (closeStaged s o book sample)
   unfolding closeStaged
   close-staged-refused =
-      closing-on-book r o (judgeStaged (askedOn r o) book sample) (stagedCounts r o) book
-      (judge-staged-refused (askedOn r o) book sample) (λ j e. staged-planned j e .lot .severity)
+      closing-on-book s (judgeStaged q book sample) (stagedEvent (s .switching) o) book
+      (judge-staged-refused q book sample)
+      (λ j e. lot-moves s o sampled (stagedCounts (s .switching) o j) (staged-planned j e .lot .severity))
 
   pub close-staged-given : (c : Closed StagedPlan)
-      → (closeStaged r o book sample ≡ given c)
-      ↔ Closes r o (judgeStaged (askedOn r o) book sample) (stagedCounts r o) c
+      → (closeStaged s o book sample ≡ given c)
+      ↔ Closes s (judgeStaged q book sample) (stagedEvent (s .switching) o) c
   unfolding closeStaged
   close-staged-given =
-      closing-book-given r o (judgeStaged (askedOn r o) book sample) (stagedCounts r o) book
+      closing-book-given s (judgeStaged q book sample) (stagedEvent (s .switching) o)
+      (λ j e. sampled-counts s o (stagedCounts (s .switching) o j)) book
       (λ j e. staged-planned j e .book-sound)
 
-module _ (r : Record) (o : Offered) (total : ℕ) where
-  pub close-total-refused : Reports 1 (Row 1 (inRange r ≡ false) (TotalRows (askedOn r o) total)) (closeTotal r o total)
+module _ (s : Supply) (o : Offered) (total : ℕ) where
+  abbrev asked : Asked
+  asked = askedOn (s .switching) o
+
+  pub close-total-refused : Reports 1 (Row 1 (supplyInRange s ≡ false) (TotalRows asked total)) (closeTotal s o total)
   unfolding closeTotal
   close-total-refused =
-      closing-reports r o (judgeTotal (askedOn r o) total) (singleCounts r o) (judge-total-refused (askedOn r o) total)
-      (λ j e. judge-total-given (askedOn r o) total j .0 e .planned .lot .severity)
+      closing-reports s (judgeTotal asked total) (singleEvent (s .switching) o) (judge-total-refused asked total)
+      (λ j e.
+      lot-moves s o sampled (singleCounts (s .switching) o j)
+      (judge-total-given asked total j .0 e .planned .lot .severity))
 
   pub close-total-given : (c : Closed Plan)
-      → (closeTotal r o total ≡ given c) ↔ Closes r o (judgeTotal (askedOn r o) total) (singleCounts r o) c
+      → (closeTotal s o total ≡ given c) ↔ Closes s (judgeTotal asked total) (singleEvent (s .switching) o) c
   unfolding closeTotal
-  close-total-given = closing-given r o (judgeTotal (askedOn r o) total) (singleCounts r o)
+  close-total-given =
+      closing-given s (judgeTotal asked total) (singleEvent (s .switching) o)
+      (λ j e. sampled-counts s o (singleCounts (s .switching) o j))
 
--- 6. A history byte: 1 for a record out of range or a byte of no known form, 5 for any lot while stopped, 10 for a
--- corrective order when not stopped.
-module _ (r : Record) where
-  pub next-refused : (w : Work) (byte : ℕ)
-      → Reports 1 (Row 1 (inRange r ≡ false) (EventRows r (eventIn w byte))) (next w r byte)
-  unfolding next
-  next-refused w byte =
-      check 1 (not (inRange r)) (not-true (inRange r)) (λ e. ap not e) (le-refl 1) (step-refused r (eventIn w byte))
+-- 6. An event, or a history byte: 1 for a record out of range or a byte of no known form, 5 for any lot while stopped,
+-- 10 for a corrective order when not stopped.
+module _ (s : Supply) where
+  pub moved-refused : (e : Event)
+      → Reports 1 (Row 1 (supplyInRange s ≡ false) (EventRows (s .switching) (countsOn s e))) (moved s e)
+  moved-refused e =
+      check 1 (not (supplyInRange s)) (not-true (supplyInRange s)) (λ e. ap not e) (le-refl 1) (move-refused s e)
 
-  pub next-given : (w : Work) (byte : ℕ) (t : Record)
-      → (next w r byte ≡ given t) ↔ ((inRange r ≡ true) × (step r (eventIn w byte) ≡ given t))
-  unfolding next
-  next-given w byte t = (
+  pub moved-given : (e : Event) (t : Supply)
+      → (moved s e ≡ given t) ↔ ((supplyInRange s ≡ true) × Took s (countsOn s e) t)
+  moved-given e t = (
     λ g.
-        let h = first-given ((not (inRange r) gives unknownForm) ∷ []) _ t .0 g in
-        (not-false (inRange r) (h .0 .0), h .1),
-    λ h. first-given ((not (inRange r) gives unknownForm) ∷ []) _ t .1 ((ap not (h .0), tt), h .1),
+        let h = first-given ((not (supplyInRange s) gives unknownForm) ∷ []) _ t .0 g in
+        (not-false (supplyInRange s) (h .0 .0), move-took s e t (h .1)),
+    λ h.
+        first-given ((not (supplyInRange s) gives unknownForm) ∷ []) _ t .1
+        ((ap not (h .0), tt), took-moves s e t (h .1)),
   )
+
+  pub next-refused : (w : Work) (byte : ℕ)
+      → Reports 1 (Row 1 (supplyInRange s ≡ false) (EventRows (s .switching) (eventIn w byte))) (next w s byte)
+  unfolding next
+  next-refused w byte = rw (typed-counts s w byte) at (moved-refused (eventIn w byte))
+
+  pub next-given : (w : Work) (byte : ℕ) (t : Supply)
+      → (next w s byte ≡ given t) ↔ ((supplyInRange s ≡ true) × Took s (eventIn w byte) t)
+  unfolding next
+  next-given w byte t = rw (typed-counts s w byte) at (moved-given (eventIn w byte) t)
 
 -- 7. The screen: 7 unless there are 1 to 50 whole readings, 9 for one out of range.
 module _ (bytes : List ℕ) where

@@ -9,9 +9,9 @@ use borrow.Author.Tests.{ne-eqb}
 use Rattle.rules.specs.Refusals.{Answer, refused, Check, firstOf, _gives_, noPlan}
 use Rattle.rules.specs.Codes.{reduced}
 use Rattle.rules.specs.Book.{checkBook, sound}
-use Rattle.rules.specs.Severity.{Record}
+use Rattle.rules.specs.Supply.{Supply}
 use Rattle.rules.specs.Entries.{Asked, askedChecks, singlePlan, plainPlan, judgeSingle, Offered, askedOn}
-use Rattle.rules.specs.Entries.{closeSingle}
+use Rattle.rules.specs.Entries.{closeSingle, fractionalPlan, judgeFractional, closeFractional}
 
 -- a check more that finds nothing wrong
 one-more : {A : Type 0} (cs : List Check) (n : ℕ) (x : Answer A)
@@ -32,9 +32,24 @@ module _ (q : Asked) (plain : q .severity ≡ reduced → ⊥) where
     unfolding judgeSingle
     same-single-verdict sample = rw same-single-plan
 
-pub same-single-record : (r : Record) → (r .severity ≡ reduced → ⊥) → (o : Offered) (a b : List ℕ)
+pub same-single-record : (s : Supply) → (s .switching .severity ≡ reduced → ⊥) → (o : Offered) (a b : List ℕ)
     → checkBook a ≡ sound → checkBook b ≡ sound → (sample : List ℕ)
-    → closeSingle r o a sample ≡ closeSingle r o b sample
+    → closeSingle s o a sample ≡ closeSingle s o b sample
 unfolding closeSingle
-same-single-record r plain o a b good fine sample =
-    rw (good, fine, same-single-verdict (askedOn r o) plain a b good fine sample)
+same-single-record s plain o a b good fine sample =
+    rw (good, fine, same-single-verdict (askedOn (s .switching) o) plain a b good fine sample)
+
+-- the same in the mode of fractions
+module _ (a b : List ℕ) (good : checkBook a ≡ sound) (fine : checkBook b ≡ sound) where
+  pub same-fractional-plan : (q : Asked) → (q .severity ≡ reduced → ⊥) → fractionalPlan q a ≡ fractionalPlan q b
+  unfolding fractionalPlan
+  same-fractional-plan q plain = rw (same-single-plan q plain a b good fine)
+
+  module _ (s : Supply) (plain : s .switching .severity ≡ reduced → ⊥) (o : Offered) (sample : List ℕ) where
+    pub same-fractional-verdict : judgeFractional s o a sample ≡ judgeFractional s o b sample
+    unfolding judgeFractional
+    same-fractional-verdict = rw (good, fine, same-fractional-plan (askedOn (s .switching) o) plain)
+
+    pub same-fractional-record : closeFractional s o a sample ≡ closeFractional s o b sample
+    unfolding closeFractional
+    same-fractional-record = rw same-fractional-verdict

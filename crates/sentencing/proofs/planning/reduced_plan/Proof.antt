@@ -13,7 +13,7 @@ use Rattle.rules.specs.Layout.{entryOf}
 use Rattle.rules.proofs.Numbers.{numbers-low, numbers-part}
 use Rattle.plans.specs.Paper.{askedPaper, beside, itself, zeroPlan}
 use Rattle.entry.specs.Paper.{reducedPaper}
-use Rattle.sentencing.specs.Paper.{supplyPaper, placeFor}
+use Rattle.sentencing.specs.Paper.{suppliedPaper, placeFor}
 use Rattle.sentencing.proofs.Supplies.{supplied-near, not-supplied, reduced-supplied, reduced-given}
 use borrow.Author.Needs.{needs}
 use Rattle.sentencing.proofs.planning.reduced_plan.Statement.{statement}
@@ -25,7 +25,7 @@ known = omega arith
 stands : (c : tie.After-letter) → let a = c .before .before .before .before .args in
     given (record { letter = c .letter .given .0 .0; plan = c .letter .given .0 .1 .0 })
     ≡ placeFor 0 (askedPaper (a .lot)) (now (a .book))
-stands c = sym (ap supplyPaper (c .letter .given .1)) ∙ c .before .before .supplied .ensures
+stands c = sym (ap suppliedPaper (c .letter .given .1)) ∙ c .before .before .look-up .ensures
 
 near : (c : tie.After-letter) → c .letter .given .0 .1 .0 ≤ length (numbersOf (now
     (c .before .before .before .before .args .book)))
@@ -61,8 +61,8 @@ returns c =
     (reduced-supplied (askedPaper (a .lot)) (now (a .book)) known
     (c .before .before .before .before .before .before .pre)
     ∙ not-supplied 0 (askedPaper (a .lot)) (now (a .book)) known _ _ _
-    (sym (ap supplyPaper
-    (c .before .before .number .given .1)) ∙ c .before .before .before .before .supplied .ensures)))
+    (sym (ap suppliedPaper
+    (c .before .before .number .given .1)) ∙ c .before .before .before .before .look-up .ensures)))
 
 returns-2 : tie.Need-returns-2
 returns-2 c =

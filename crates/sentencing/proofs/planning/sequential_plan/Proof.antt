@@ -14,7 +14,7 @@ use Rattle.rules.specs.Entries.{sequentialPlan}
 use Rattle.rules.proofs.Numbers.{numbers-low, numbers-part}
 use Rattle.plans.specs.Paper.{askedPaper, beside, itself}
 use Rattle.entry.specs.Paper.{sequentialPaper}
-use Rattle.sentencing.specs.Paper.{supplyPaper, placeFor, withoutLetter, zeroSequential}
+use Rattle.sentencing.specs.Paper.{suppliedPaper, placeFor, withoutLetter, zeroSequential}
 use Rattle.sentencing.proofs.Supplies.{supplied-near, plan-refused, plan-above, plan-given}
 use borrow.Author.Needs.{needs}
 use Rattle.sentencing.proofs.planning.sequential_plan.Statement.{statement}
@@ -27,7 +27,7 @@ known = omega arith
 stands : (c : tie.After-letter) → let a = c .before .before .before .before .args in
     given (record { letter = c .letter .given .0 .0; plan = c .letter .given .0 .1 .0 })
     ≡ placeFor 2 (askedPaper (a .lot)) (now (a .book))
-stands c = sym (ap supplyPaper (c .letter .given .1)) ∙ c .before .before .supplied .ensures
+stands c = sym (ap suppliedPaper (c .letter .given .1)) ∙ c .before .before .look-up .ensures
 
 near : (c : tie.After-letter) → c .letter .given .0 .1 .0 ≤ length (numbersOf (now
     (c .before .before .before .before .args .book)))
@@ -83,7 +83,8 @@ returns-2 c =
     (plan-refused 2 known sequentialOf (λ p. p .nt) (askedPaper
     (c .before .before .before .before .before .before .args .lot)) (now
     (c .before .before .before .before .before .before .args .book)) _ _
-    (sym (ap supplyPaper (c .before .before .number .given .1)) ∙ c .before .before .before .before .supplied .ensures))
+    (sym (ap suppliedPaper (c .before .before .number .given .1))
+    ∙ c .before .before .before .before .look-up .ensures))
 
 returns-3 : tie.Need-returns-3
 unfolding sequentialPlan

@@ -17,7 +17,7 @@ use Rattle.rules.proofs.Numbers.{numbers-low, numbers-part}
 use Rattle.plans.specs.Paper.{askedPaper, beside, itself}
 use Rattle.entry.specs.Paper.{stagedPaper, noStages, stagedRead}
 use Rattle.book.proofs.PlaceLaws.{few-stages}
-use Rattle.sentencing.specs.Paper.{supplyPaper, placeFor, withoutLetter}
+use Rattle.sentencing.specs.Paper.{suppliedPaper, placeFor, withoutLetter}
 use Rattle.sentencing.proofs.Sizes.{read-few}
 use Rattle.sentencing.proofs.Supplies.{supplied-near, supplied-at, plan-refused, plan-above, plan-given}
 use borrow.Author.Needs.{needs}
@@ -34,7 +34,7 @@ items p = totalSize (stagesOf p)
 stands : (c : tie.After-letter) → let a = c .before .before .before .before .args in
     given (record { letter = c .letter .given .0 .0; plan = c .letter .given .0 .1 .0 })
     ≡ placeFor 1 (askedPaper (a .lot)) (now (a .book))
-stands c = sym (ap supplyPaper (c .letter .given .1)) ∙ c .before .before .supplied .ensures
+stands c = sym (ap suppliedPaper (c .letter .given .1)) ∙ c .before .before .look-up .ensures
 
 near : (c : tie.After-letter) → c .letter .given .0 .1 .0 ≤ length (numbersOf (now
     (c .before .before .before .before .args .book)))
@@ -108,7 +108,8 @@ returns-2 c =
     ∙ ap (beside (withoutLetter noStages) itself)
     (plan-refused 1 known stagedOf items (askedPaper (c .before .before .before .before .before .before .args .lot))
     (now (c .before .before .before .before .before .before .args .book)) _ _
-    (sym (ap supplyPaper (c .before .before .number .given .1)) ∙ c .before .before .before .before .supplied .ensures))
+    (sym (ap suppliedPaper (c .before .before .number .given .1))
+    ∙ c .before .before .before .before .look-up .ensures))
 
 returns-3 : tie.Need-returns-3
 unfolding stagedPlan items
