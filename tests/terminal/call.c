@@ -19,6 +19,17 @@ typedef uint32_t variables_function(uint32_t, uint32_t, uint32_t, uint32_t, cons
 typedef uint32_t close_function(uint8_t *, size_t, uint32_t, uint32_t, uint32_t, uint32_t, const uint8_t *, size_t,
                                 const uint8_t *, size_t, uint8_t *, uint16_t *, uint8_t *);
 
+void set_lot(struct call *call, enum function function, uint32_t size, uint32_t level, uint32_t column,
+             uint32_t severity) {
+    memset(call, 0, sizeof *call);
+    call->function = function;
+    call->size = size;
+    call->level = level;
+    call->column = column;
+    call->severity = severity;
+    call->book_len = 8;
+}
+
 struct library {
     uint32_t (*letter)(uint32_t, uint32_t, uint8_t *);
     uint32_t (*plan)(uint32_t, uint32_t, uint32_t, uint32_t, const uint8_t *, size_t, uint8_t *, uint16_t *,

@@ -60,6 +60,10 @@ struct answer {
     uint8_t share, guard_17[7], record[RECORD_ROOM], guard_18[20];
 };
 
+/* A lot with an empty book and no sample yet. */
+void set_lot(struct call *call, enum function function, uint32_t size, uint32_t level, uint32_t column,
+             uint32_t severity);
+
 /*
  * Runs the proved function and the reference on one call, holds one to the other, counts it, and gives the status,
  * that of LIST or any other. The answer is the proved function's, and so are the out_len bytes of last_out.

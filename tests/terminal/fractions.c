@@ -19,16 +19,6 @@ static void expect(bool holds, const char *what) {
         report(what, &call);
 }
 
-static void set_lot(enum function function, uint32_t size, uint32_t level, uint32_t column, uint32_t severity) {
-    memset(&call, 0, sizeof call);
-    call.function = function;
-    call.size = size;
-    call.level = level;
-    call.column = column;
-    call.severity = severity;
-    call.book_len = 8;
-}
-
 /* ---- plans: the ends of each fraction, and what stands beside them */
 
 struct plan_case {
@@ -74,7 +64,7 @@ static const struct plan_case plans[] = {
 static void worked_plans(void) {
     for (unsigned i = 0; i < sizeof plans / sizeof *plans; i++) {
         const struct plan_case *p = &plans[i];
-        set_lot(FRACTIONAL_PLAN, p->size, p->level, p->column, p->severity);
+        set_lot(&call, FRACTIONAL_PLAN, p->size, p->level, p->column, p->severity);
         expect(run_both(&call, &answer) == 0, "a plan in the mode of fractions");
         expect(answer.letter == p->letter && answer.n == p->n, "letter and sample size in the mode of fractions");
         expect(answer.ac == p->ac && answer.share == p->share, "Ac and share in the mode of fractions");
@@ -91,7 +81,7 @@ static void plans_over_column_15(void) {
         {8, 16, NORMAL}, {8, 16, TIGHTENED}, {8, 17, TIGHTENED}, {15, 16, TIGHTENED}, {2, 16, NORMAL},
     };
     for (unsigned i = 0; i < sizeof lots / sizeof *lots; i++) {
-        set_lot(FRACTIONAL_PLAN, lots[i][0], 5, lots[i][1], lots[i][2]);
+        set_lot(&call, FRACTIONAL_PLAN, lots[i][0], 5, lots[i][1], lots[i][2]);
         expect(run_both(&call, &answer) == 6, "a fraction over column 15 is no plan");
         call.function = PLAN;
         expect(run_both(&call, &answer) == 0, "the plan of the old mode over column 15");
@@ -101,7 +91,7 @@ static void plans_over_column_15(void) {
 /* Reduced plans come from the book, at every box. */
 static void reduced_plans(void) {
     static const unsigned entry[] = {1, G, 10, 13, 1, 0, 0, 0};
-    set_lot(FRACTIONAL_PLAN, 200, 5, 10, REDUCED);
+    set_lot(&call, FRACTIONAL_PLAN, 200, 5, 10, REDUCED);
     expect(run_both(&call, &answer) == 6, "reduced, with no entry");
     call.book_len = 0;
     for (unsigned i = 0; i < 8; i++)
@@ -304,7 +294,7 @@ static void old_record(void) {
 /* ---- refusals: with everything wrong at once, put right one by one in the order in which they are given */
 
 static void put_right(unsigned steps) {
-    set_lot(call.function, 1, 7, 26, 4);
+    set_lot(&call, call.function, 1, 7, 26, 4);
     call.book_len = steps > 0 ? 8 : 7;
     call.record_len = RECORD;
     call.record[0] = STOPPED;
@@ -363,7 +353,7 @@ static const struct annex_lot from_lot_12[] = {
 };
 
 static void close_annex_lot(const struct annex_lot *lot, uint8_t record[RECORD]) {
-    set_lot(FRACTIONAL_PLAN, lot->size, 5, 10, record[0]);
+    set_lot(&call, FRACTIONAL_PLAN, lot->size, 5, 10, record[0]);
     expect(run_both(&call, &answer) == 0 && answer.letter == lot->letter && answer.n == lot->n,
            "ISO 2859-1 annex A in the mode of fractions: letter and sample size");
     expect(answer.ac == lot->ac && answer.share == lot->share, "ISO 2859-1 annex A: given Ac");

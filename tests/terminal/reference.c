@@ -718,19 +718,22 @@ uint32_t ref_letter(uint32_t size, uint32_t level, uint8_t *letter) {
     return 0;
 }
 
+static uint32_t tell_single(uint32_t status, const struct single_plan *plan, uint8_t *letter, uint16_t *n,
+                            uint16_t *ac) {
+    if (status != 0)
+        return status;
+    *letter = (uint8_t)plan->letter;
+    *n = (uint16_t)plan->n;
+    *ac = (uint16_t)plan->ac;
+    return 0;
+}
+
 uint32_t ref_plan(uint32_t size, uint32_t level, uint32_t column, uint32_t severity, const uint8_t *book,
                   size_t book_len, uint8_t *letter, uint16_t *n, uint16_t *ac) {
     struct lot lot = {.size = size, .level = level, .column = column, .severity = severity};
     struct single_plan plan;
     uint32_t status = open_lot(&lot, book, book_len);
-    if (status == 0)
-        status = find_single(&lot, &plan);
-    if (status != 0)
-        return status;
-    *letter = (uint8_t)plan.letter;
-    *n = (uint16_t)plan.n;
-    *ac = (uint16_t)plan.ac;
-    return 0;
+    return tell_single(status == 0 ? find_single(&lot, &plan) : status, &plan, letter, n, ac);
 }
 
 uint32_t ref_fractional_plan(uint32_t size, uint32_t level, uint32_t column, uint32_t severity, const uint8_t *book,
@@ -738,15 +741,10 @@ uint32_t ref_fractional_plan(uint32_t size, uint32_t level, uint32_t column, uin
     struct lot lot = {.size = size, .level = level, .column = column, .severity = severity};
     struct single_plan plan;
     uint32_t status = open_lot(&lot, book, book_len);
+    status = tell_single(status == 0 ? find_fractional(&lot, &plan) : status, &plan, letter, n, ac);
     if (status == 0)
-        status = find_fractional(&lot, &plan);
-    if (status != 0)
-        return status;
-    *letter = (uint8_t)plan.letter;
-    *n = (uint16_t)plan.n;
-    *ac = (uint16_t)plan.ac;
-    *share = (uint8_t)plan.share;
-    return 0;
+        *share = (uint8_t)plan.share;
+    return status;
 }
 
 /* One number of a row of 21: seven sizes, seven Ac, seven Re, two bytes each, low byte first. */

@@ -37,8 +37,8 @@ use Rattle.history.specs.declared.Listed.the-variants as listing
 use Rattle.closing.specs.Paper.{closedOn, closedPaper}
 use Rattle.closing.specs.declared.ClosedAnswer.{ClosedAnswer}
 use Rattle.closing.specs.declared.ClosedAnswer.the-variants as closes
-use Rattle.terminal.specs.Lent.{FractionalPlanLeft}
-use Rattle.terminal.specs.Lent.{LetterLeft, PlanLeft, StagedPlanLeft, SequentialPlanLeft, VariablesPlanLeft}
+use Rattle.terminal.specs.Lent.{SingleLeft, FractionalPlanLeft}
+use Rattle.terminal.specs.Lent.{LetterLeft, StagedPlanLeft, SequentialPlanLeft, VariablesPlanLeft}
 use Rattle.terminal.specs.Lent.{OutcomeLeft, VerdictTold, VerdictLeft, ClosedLeft, NextLeft, ListLeft, ScreenLeft}
 pub use Rattle.rules.proofs.Answers.{met}
 pub use Rattle.plans.proofs.Standing.{beside-answer, planned-refused, planned-given}
@@ -143,35 +143,22 @@ module _ {a : Answer ℕ} {l : ℕ} where
   pub letter-given : {x : ℕ} → given x ≡ a → LetterLeft a 0 l x
   letter-given e = record { status = told-given e; letter-left = rw (← e) }
 
-module _ {a : Answer Plan} {l m c : ℕ} where
-  pub plan-refused : {n p s : ℕ} → refused n p ≡ a → s ≡ n + 256 * p → PlanLeft a s l l m m c c
+module _ {A : Type 0} {planOf : A → Plan} {a : Answer A} {l m c : ℕ} where
+  pub plan-refused : {n p s : ℕ} → refused n p ≡ a → s ≡ n + 256 * p → SingleLeft planOf a s l l m m c c
   plan-refused e f =
       record { status = told-refused e f; letter-left = rw (← e); n-left = rw (← e); ac-left = rw (← e) }
 
-  pub plan-given : {x : Plan} → given x ≡ a → PlanLeft a 0 l (x .letter) m (x .n) c (x .ac)
+  pub plan-given : {x : A} → given x ≡ a
+      → SingleLeft planOf a 0 l (planOf x .letter) m (planOf x .n) c (planOf x .ac)
   plan-given e = record { status = told-given e; letter-left = rw (← e); n-left = rw (← e); ac-left = rw (← e) }
 
 module _ {a : Answer FractionalPlan} {l m c h : ℕ} where
   pub fractional-refused : {n p s : ℕ} → refused n p ≡ a → s ≡ n + 256 * p → FractionalPlanLeft a s l l m m c c h h
-  fractional-refused e f =
-      record {
-        status = told-refused e f;
-        letter-left = rw (← e);
-        n-left = rw (← e);
-        ac-left = rw (← e);
-        share-left = rw (← e);
-      }
+  fractional-refused e f = record { single = plan-refused e f; share-left = rw (← e) }
 
   pub fractional-given : {x : FractionalPlan} → given x ≡ a
       → FractionalPlanLeft a 0 l (x .plan .letter) m (x .plan .n) c (x .plan .ac) h (x .share)
-  fractional-given e =
-      record {
-        status = told-given e;
-        letter-left = rw (← e);
-        n-left = rw (← e);
-        ac-left = rw (← e);
-        share-left = rw (← e);
-      }
+  fractional-given e = record { single = plan-given e; share-left = rw (← e) }
 
 module _ (a : Answer (Lettered StagedPlan)) {l s : ℕ} {row : List ℕ} where
   pub staged-refused : {n p t : ℕ} → refused n p ≡ a → t ≡ n + 256 * p → StagedPlanLeft a t l l s s row row

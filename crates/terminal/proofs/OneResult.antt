@@ -14,8 +14,8 @@ use Rattle.rules.specs.Fractional.{FractionalPlan}
 use Rattle.rules.specs.Supply.{Supply}
 use Rattle.rules.specs.Entries.{Lettered, Closed}
 use Rattle.rules.specs.Screen.{Shown}
-use Rattle.terminal.specs.Lent.{FractionalPlanLeft}
-use Rattle.terminal.specs.Lent.{LetterLeft, PlanLeft, StagedPlanLeft, SequentialPlanLeft, VariablesPlanLeft}
+use Rattle.terminal.specs.Lent.{SingleLeft, FractionalPlanLeft}
+use Rattle.terminal.specs.Lent.{LetterLeft, StagedPlanLeft, SequentialPlanLeft, VariablesPlanLeft}
 use Rattle.terminal.specs.Lent.{OutcomeLeft, ClosedLeft, NextLeft, ListLeft, ScreenLeft}
 
 -- a promise that gives what stands at exit outright gives one (and so of hm_check_book)
@@ -28,8 +28,9 @@ pub letter-one : {a : Answer ℕ} {l r l₁ s l₂ : ℕ} → LetterLeft a r l l
 letter-one c d = (one (c .status) (d .status), one (c .letter-left) (d .letter-left))
 
 -- of hm_plan
-pub plan-one : {a : Answer Plan} {l n k r l₁ n₁ k₁ s l₂ n₂ k₂ : ℕ} → PlanLeft a r l l₁ n n₁ k k₁
-    → PlanLeft a s l l₂ n n₂ k k₂ → (r ≡ s) × (l₁ ≡ l₂) × (n₁ ≡ n₂) × (k₁ ≡ k₂)
+pub plan-one : {A : Type 0} {planOf : A → Plan} {a : Answer A} {l n k r l₁ n₁ k₁ s l₂ n₂ k₂ : ℕ}
+    → SingleLeft planOf a r l l₁ n n₁ k k₁ → SingleLeft planOf a s l l₂ n n₂ k k₂
+    → (r ≡ s) × (l₁ ≡ l₂) × (n₁ ≡ n₂) × (k₁ ≡ k₂)
 plan-one c d = (
   one (c .status) (d .status),
   one (c .letter-left) (d .letter-left),
@@ -40,14 +41,8 @@ plan-one c d = (
 -- of hm_fractional_plan
 pub fractional-plan-one : {a : Answer FractionalPlan} {l n k h r l₁ n₁ k₁ h₁ s l₂ n₂ k₂ h₂ : ℕ}
     → FractionalPlanLeft a r l l₁ n n₁ k k₁ h h₁ → FractionalPlanLeft a s l l₂ n n₂ k k₂ h h₂
-    → (r ≡ s) × (l₁ ≡ l₂) × (n₁ ≡ n₂) × (k₁ ≡ k₂) × (h₁ ≡ h₂)
-fractional-plan-one c d = (
-  one (c .status) (d .status),
-  one (c .letter-left) (d .letter-left),
-  one (c .n-left) (d .n-left),
-  one (c .ac-left) (d .ac-left),
-  one (c .share-left) (d .share-left),
-)
+    → ((r ≡ s) × (l₁ ≡ l₂) × (n₁ ≡ n₂) × (k₁ ≡ k₂)) × (h₁ ≡ h₂)
+fractional-plan-one c d = (plan-one (c .single) (d .single), one (c .share-left) (d .share-left))
 
 -- of hm_staged_plan
 pub staged-plan-one : (a : Answer (Lettered StagedPlan)) {l k r l₁ k₁ s l₂ k₂ : ℕ} {row row₁ row₂ : List ℕ}

@@ -40,18 +40,20 @@ pub record LetterLeft (answer : Answer ℕ) (r letter letter′ : ℕ) : Type 0 
   pub status : r ≡ statusOf answer
   pub letter-left : letter′ ≡ leftBy (λ l. l) answer letter
 
-pub record PlanLeft (answer : Answer Plan) (r letter letter′ n n′ ac ac′ : ℕ) : Type 0 where
-  pub status : r ≡ statusOf answer
-  pub letter-left : letter′ ≡ leftBy (λ plan. plan .letter) answer letter
-  pub n-left : n′ ≡ leftBy (λ plan. plan .n) answer n
-  pub ac-left : ac′ ≡ leftBy (λ plan. plan .ac) answer ac
+-- a single plan, of whatever was planned
+pub record SingleLeft {A : Type 0} (planOf : A → Plan) (answer : Answer A) (r letter letter′ n n′ ac ac′ : ℕ) : Type 0
+  where
+    pub status : r ≡ statusOf answer
+    pub letter-left : letter′ ≡ leftBy (λ a. planOf a .letter) answer letter
+    pub n-left : n′ ≡ leftBy (λ a. planOf a .n) answer n
+    pub ac-left : ac′ ≡ leftBy (λ a. planOf a .ac) answer ac
+
+abbrev pub PlanLeft : Answer Plan → ℕ → ℕ → ℕ → ℕ → ℕ → ℕ → ℕ → Type 0
+PlanLeft = SingleLeft (λ p. p)
 
 pub record FractionalPlanLeft (answer : Answer FractionalPlan) (r letter letter′ n n′ ac ac′ share share′ : ℕ) : Type 0
   where
-    pub status : r ≡ statusOf answer
-    pub letter-left : letter′ ≡ leftBy (λ p. p .plan .letter) answer letter
-    pub n-left : n′ ≡ leftBy (λ p. p .plan .n) answer n
-    pub ac-left : ac′ ≡ leftBy (λ p. p .plan .ac) answer ac
+    pub single : SingleLeft (λ p. p .plan) answer r letter letter′ n n′ ac ac′
     pub share-left : share′ ≡ leftBy (λ p. p .share) answer share
 
 -- the plan of an answer that has a letter too
