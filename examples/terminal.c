@@ -21,7 +21,10 @@ static const uint8_t book[] = {
     NUMBER(1),
     NUMBER(HM_LETTER_J), NUMBER(HM_AQL_1_0), NUMBER(32), NUMBER(1),
     /* staged: severity, letter, column, stages, sizes; then Ac and Re of each stage */
-    NUMBER(1),
+    NUMBER(2),
+    NUMBER(HM_NORMAL), NUMBER(HM_LETTER_H), NUMBER(HM_AQL_1_0), NUMBER(5),
+    NUMBER(13), NUMBER(13), NUMBER(13), NUMBER(13), NUMBER(13),
+    NUMBER(HM_MARK), NUMBER(3), NUMBER(0), NUMBER(3), NUMBER(1), NUMBER(4), NUMBER(2), NUMBER(4), NUMBER(4), NUMBER(5),
     NUMBER(HM_NORMAL), NUMBER(HM_LETTER_J), NUMBER(HM_AQL_1_0), NUMBER(2), NUMBER(50), NUMBER(50),
     NUMBER(0), NUMBER(3), NUMBER(3), NUMBER(4),
     /* sequential: severity, letter, column, hA, hR, g, nt, At */
@@ -172,11 +175,12 @@ static void close_single(uint32_t resubmitted, size_t bad) {
     print_closed(resubmitted ? "resubmitted" : "closed", status, accepted, used);
 }
 
-static void close_staged(size_t n, size_t bad) {
+/* Of two stages acceptance at the first adds 3 to the score, of three or more by the third: a lot of 500 has five. */
+static void close_staged(uint32_t size, size_t n, size_t bad) {
     uint8_t accepted = 0;
     uint16_t used = 0;
     size_t len = draw_sample(n, bad);
-    uint32_t status = hm_close_staged(supply, sizeof supply, HM_ORIGINAL, SIZE, LEVEL, COLUMN, book, sizeof book,
+    uint32_t status = hm_close_staged(supply, sizeof supply, HM_ORIGINAL, size, LEVEL, COLUMN, book, sizeof book,
                                       sample, len, &accepted, &used, &history[history_len]);
     print_closed("closed, staged", status, accepted, used);
 }
@@ -186,7 +190,8 @@ static void close_lots(void) {
     order("steady", HM_STEADY);
     order("permission", HM_PERMISSION);
     close_single(HM_ORIGINAL, 1);
-    close_staged(50, 0);
+    close_staged(SIZE, 50, 0);
+    close_staged(500, 39, 1);
     close_single(HM_ORIGINAL, 3);
     close_single(HM_RESUBMITTED, 0);
     close_single(HM_ORIGINAL, 2);

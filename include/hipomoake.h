@@ -79,6 +79,10 @@
  * THE HISTORY of a supply: one byte for each lot and each order, HM_ACCEPTED_ADD_3 to HM_CORRECTIVE, from a fresh
  * record on. The functions that close a lot tell its byte; the byte of hm_next is its event. A bench that keeps the
  * bytes of all that was answered can have its severities again from hm_list. Bytes do not tell the clean run.
+ *   An original lot accepted under normal adds to the score: on a single plan 2 where Ac is 0 or 1, and 3 where Ac is 2
+ * or more and the total is also within the Ac that the normal table has one column tighter at the letter of the plan;
+ * on a staged plan 3 where it is accepted at the first of two stages, or at stage 1, 2 or 3 of three or more. Else it
+ * takes the score to 0.
  *
  * EXAMPLE. Close an original lot of 1,000 at level II, AQL 1.0, on the record of its supply:
  *
@@ -319,8 +323,8 @@ uint32_t hm_close_fractional(uint8_t *record, size_t record_len, uint32_t resubm
 
 /*
  * Move the record by one event, HM_ACCEPTED_ADD_3 to HM_CORRECTIVE: an order, or an attributes lot judged elsewhere,
- * which clears the clean run unless it is resubmitted. Never a lot judged on a sequential or variables plan: those
- * enter neither the record nor the history.
+ * its byte chosen by its points (THE HISTORY, above). Such a lot clears the clean run unless it is resubmitted. Never a
+ * lot judged on a sequential or variables plan: those enter neither the record nor the history.
  * Refuses 1 5 10.
  */
 uint32_t hm_next(uint8_t *record, size_t record_len, uint32_t event);

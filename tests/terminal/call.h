@@ -42,7 +42,7 @@ struct call {
     enum function function;
     uint32_t size, level, column, severity, resubmitted, event;
     int32_t limit;
-    unsigned first_stage; /* of the staged plan in the book, for the history of a supply; passed to none */
+    unsigned items_with_points; /* after how many the book's staged plan still adds 3, for a supply; passed to none */
     size_t book_len, sample_len, record_len, out_len;
     uint8_t book[BOOK_ROOM], sample[SAMPLE_ROOM], record[RECORD_ROOM];
 };

@@ -4,7 +4,7 @@
 
 #include <stdbool.h>
 
-/* What the standards and document 01 publish. */
+/* What the standards and document 01 publish, and the worked cases of T-02. */
 void published_cases(void);
 
 /* Every letter and plan of the tables, every row of stages, every record by every event, and the longest books. */
@@ -15,6 +15,9 @@ void fraction_cases(void);
 
 /* Every fraction by every run and total, every clean run in a record by every event, every short run of mixed calls. */
 void every_fraction(void);
+
+/* T-02: every stage of every number of stages, accepted there and not, by every record that has no clean run. */
+void every_stage(void);
 
 /* Every mixture of what a lot can be refused for, in each function that takes one. */
 void refusal_cases(void);

@@ -27,6 +27,7 @@ int main(int argc, char **argv) {
     exhaustive_cases();
     fraction_cases();
     every_fraction();
+    every_stage();
     refusal_cases();
     history_cases();
     ok = summary() && ok;

@@ -451,6 +451,6 @@ void draw_next_lot(struct call *c, bool good) {
     if (c->function == CLOSE_FRACTIONAL ? !one_in(10) : one_in(4))
         go_on_with_run(c);
     draw_book(c, true, &plans);
-    c->first_stage = plans.size[0];
+    c->items_with_points = plans.size[0] + (plans.stages > 2 ? plans.size[1] + plans.size[2] : 0);
     draw_items(c, &plans, good ? GOOD : BAD);
 }

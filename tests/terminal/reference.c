@@ -1,6 +1,6 @@
 /*
- * A plain reading of document 01, section by section, with the record kept from lot to lot, and of T-01 of document 02:
- * the fractions. See reference.h.
+ * A plain reading of document 01, section by section, with the record kept from lot to lot, and of document 02: the
+ * fractions of T-01 and the score of T-02. See reference.h.
  */
 #include "reference.h"
 
@@ -454,20 +454,20 @@ static uint32_t find_staged(const struct lot *lot, struct staged_plan *plan) {
     return all > lot->size ? 6 : 0;
 }
 
-static uint32_t judge_staged(const struct lot *lot, const uint8_t *bytes, size_t len, struct verdict *verdict) {
-    struct staged_plan plan;
+static uint32_t judge_staged(const struct lot *lot, const uint8_t *bytes, size_t len, struct staged_plan *plan,
+                             struct verdict *verdict) {
     struct sample sample = sample_for(lot, bytes, len);
-    uint32_t status = find_staged(lot, &plan);
+    uint32_t status = find_staged(lot, plan);
     if (status != 0)
         return status;
     *verdict = (struct verdict){0, 0, 0, 0};
-    for (unsigned i = 0; i < plan.stages; i++) {
-        if ((status = add_items(&sample, verdict->used, plan.size[i], &verdict->total)) != 0)
+    for (unsigned i = 0; i < plan->stages; i++) {
+        if ((status = add_items(&sample, verdict->used, plan->size[i], &verdict->total)) != 0)
             return status;
-        verdict->used += plan.size[i];
+        verdict->used += plan->size[i];
         verdict->stage = i + 1;
-        verdict->accepted = plan.ac[i] != MARK && verdict->total <= plan.ac[i];
-        if (verdict->accepted || verdict->total >= plan.re[i])
+        verdict->accepted = plan->ac[i] != MARK && verdict->total <= plan->ac[i];
+        if (verdict->accepted || verdict->total >= plan->re[i])
             break;
     }
     return len == 2 * (size_t)verdict->used ? 0 : 7;
@@ -701,10 +701,12 @@ static unsigned single_event(const struct lot *lot, const struct single_plan *pl
     return (int)verdict->total <= normal_box(plan->letter, lot->column - 1) ? ADD_3 : SCORE_0;
 }
 
-static unsigned staged_event(const struct lot *lot, const struct verdict *verdict) {
+/* A double plan earns its points at the first stage alone, a multiple one by the third. */
+static unsigned staged_event(const struct lot *lot, const struct staged_plan *plan, const struct verdict *verdict) {
+    unsigned last_stage = plan->stages == 2 ? 1 : 3;
     if (!verdict->accepted)
         return NOT_ACCEPTED;
-    return lot->severity == NORMAL && verdict->stage == 1 ? ADD_3 : SCORE_0;
+    return lot->severity == NORMAL && verdict->stage <= last_stage ? ADD_3 : SCORE_0;
 }
 
 /* ---- the entries: plans */
@@ -832,10 +834,11 @@ uint32_t ref_single(uint32_t size, uint32_t level, uint32_t column, uint32_t sev
 uint32_t ref_staged(uint32_t size, uint32_t level, uint32_t column, uint32_t severity, const uint8_t *book,
                     size_t book_len, const uint8_t *sample, size_t sample_len, uint8_t *accepted, uint16_t *used) {
     struct lot lot = {.size = size, .level = level, .column = column, .severity = severity};
+    struct staged_plan plan;
     struct verdict verdict;
     uint32_t status = open_lot(&lot, book, book_len);
     if (status == 0)
-        status = judge_staged(&lot, sample, sample_len, &verdict);
+        status = judge_staged(&lot, sample, sample_len, &plan, &verdict);
     return answer(status, &verdict, accepted, used);
 }
 
@@ -924,12 +927,13 @@ uint32_t ref_close_staged(uint8_t *record, size_t record_len, uint32_t resubmitt
                           size_t sample_len, uint8_t *accepted, uint16_t *used, uint8_t *byte) {
     struct lot lot = {.size = size, .level = level, .column = column};
     struct record r;
+    struct staged_plan plan;
     struct verdict verdict;
     uint32_t status = open_close(&r, record, record_len, &lot, book, book_len);
     if (status == 0)
-        status = judge_staged(&lot, sample, sample_len, &verdict);
+        status = judge_staged(&lot, sample, sample_len, &plan, &verdict);
     if (status == 0)
-        close_lot(record, &r, resubmitted, staged_event(&lot, &verdict), no_clean, byte);
+        close_lot(record, &r, resubmitted, staged_event(&lot, &plan, &verdict), no_clean, byte);
     return answer(status, &verdict, accepted, used);
 }
 

@@ -1,7 +1,7 @@
 /*
- * A plain reading of document 01, and of T-01 of document 02, in C, written from the documents alone. A ref_ function
- * answers as the hm_ function of the same name in hipomoake.h must. The last ones have none: lotlog's closing, and the
- * written reading of a history.
+ * A plain reading of document 01, and of T-01 and T-02 of document 02, in C, written from the documents alone. A ref_
+ * function answers as the hm_ function of the same name in hipomoake.h must. The last ones have none: lotlog's closing,
+ * and the written reading of a history.
  */
 #ifndef REFERENCE_H
 #define REFERENCE_H

@@ -34,7 +34,7 @@ static uint8_t accepted_byte(void) {
     if (call.record[0] != 0)
         return 2;
     if (call.function == CLOSE_STAGED)
-        return call.first_stage == answer.used ? 0 : 2;
+        return answer.used <= call.items_with_points ? 0 : 2;
     if (call.function == CLOSE_FRACTIONAL)
         ref_fractional_plan(call.size, call.level, call.column, 0, call.book, call.book_len, &letter, &n, &ac, &share);
     else

@@ -1,13 +1,13 @@
 -- How a closed lot counts, by the tests that the code makes: one law for each return.
 -- Assumes nothing.
 use Prim.Native.Nat.{ℕ, _≤_, _<_}
-use mathlib.Core.Path.{_≡_, ap}
-use mathlib.Core.Bool.{false, _&&_}
-use lib.Dec.{ltb}
-use borrow.Author.Tests.{le-leb, lt-leb, eq-eqb, ne-eqb}
+use mathlib.Core.Path.{_≡_, sym, ap, _∙_}
+use mathlib.Core.Bool.{Bool, true, false, _&&_}
+use lib.Dec.{leb, ltb, eqb}
+use borrow.Author.Tests.{le-leb, lt-leb}
 use Rattle.rules.specs.Codes.{countsItems}
 use Rattle.rules.specs.Severity.{Lot, addThree, addTwo, scoreZero, Origin, lot, singlePoints}
-use Rattle.rules.specs.Severity.{stagedPoints}
+use Rattle.rules.specs.Severity.{earnsThree, stagedPoints}
 use Rattle.rules.specs.Entries.{Offered, eventFor}
 
 module _ (ac tighter total : ℕ) where
@@ -21,11 +21,21 @@ module _ (ac tighter total : ℕ) where
   single-two h = rw (lt-leb 2 ac h)
 
 module _ (stage stages : ℕ) where
-  pub staged-three : stage ≡ 1 → addThree ≡ stagedPoints stage stages
-  staged-three e = rw (eq-eqb stage 1 e)
+  pub by-third : 3 ≤ stages → 1 ≤ stage → leb stage 3 ≡ earnsThree stage stages
+  by-third h k = rw (le-leb 3 stages h, le-leb 1 stage k)
 
-  pub staged-zero : (stage ≡ 1 → ⊥) → scoreZero ≡ stagedPoints stage stages
-  staged-zero e = rw (ne-eqb stage 1 e)
+  pub before-all : 3 ≤ stages → stage < 1 → false ≡ earnsThree stage stages
+  before-all h k = rw (le-leb 3 stages h, lt-leb 1 stage k)
+
+  pub of-two : stages < 3 → eqb stage 1 ≡ earnsThree stage stages
+  of-two h = rw (lt-leb 3 stages h)
+
+  module _ (earns : Bool) (e : earns ≡ earnsThree stage stages) where
+    pub staged-three : earns ≡ true → addThree ≡ stagedPoints stage stages
+    staged-three t = rw (sym e ∙ t)
+
+    pub staged-zero : earns ≡ false → scoreZero ≡ stagedPoints stage stages
+    staged-zero f = rw (sym e ∙ f)
 
 -- an original lot
 pub original : (o : Offered) (from : Origin) (l m : Lot) → o .again ≡ false → l ≡ m → lot from l ≡ eventFor o from m

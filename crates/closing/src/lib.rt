@@ -5,7 +5,7 @@ ghost use mathlib.Core.Bool.{_&&_};
 ghost use lib.Dec.{ltb};
 ghost use Rattle.rules.specs.Refusals.{refused, andThen};
 ghost use Rattle.rules.specs.Codes.{countsItems};
-ghost use Rattle.rules.specs.Severity.{counted, sampled, singlePoints, stagedPoints};
+ghost use Rattle.rules.specs.Severity.{counted, sampled, singlePoints, earnsThree, stagedPoints};
 ghost use Rattle.rules.specs.Entries.{askedOn, eventFor, singleCounts, singleEvent, onSupply, closedWith, totalOn};
 ghost use Rattle.rules.specs.Entries.{judgeTotal, closeTotal};
 ghost use Rattle.plans.specs.Paper.{askedPaper, planPaper, verdictPaper, beside, zeroPlan};
@@ -72,11 +72,23 @@ fn single_points(ac: u16, tighter: u16, total: u64) -> Lot
     Lot::AddTwo
 }
 
-// By the stage that decided and how many there are.
+// "the first stage" of two; "For three or more, .. stage 1, 2 or 3".
+fn earns_three(stage: u8, stages: u8) -> bool
+    ensures { λ r. ⌜ r ≡ earnsThree stage stages ⌝ }
+{
+    if 3 <= stages {
+        if 1 <= stage {
+            return stage <= 3;
+        }
+        return false;
+    }
+    stage == 1
+}
+
 fn staged_points(stage: u8, stages: u8) -> Lot
     ensures { λ r. ⌜ lotPaper r ≡ stagedPoints stage stages ⌝ }
 {
-    if stage == 1 {
+    if earns_three(stage, stages) {
         return Lot::AddThree;
     }
     Lot::ScoreZero

@@ -1,6 +1,7 @@
 // Every case of document 01's 'Worked at the edges' run through the public entries, each printed with its answer, and
-// cases of document 02, T-01. (lotlog's listing is run by the program lotlog.)
+// cases of document 02, T-01 and T-02. (lotlog's listing is run by the program lotlog.)
 mod fractions;
+mod stages;
 
 use history::Listed;
 use libc::STDOUT_FILENO;
@@ -396,4 +397,5 @@ fn main() {
     variables_samples();
     histories();
     fractions::all();
+    stages::all();
 }

@@ -32,8 +32,8 @@ pub mod Faults
 pub mod Printed
 pub mod Feeding
 -- Words of theorems: what the plans of a sound book keep; what demand 2 says of refusals, samples, plans and points;
--- what demand 3 says of a run of calls, of stays, of changes of severity and of lotlog. No promise is written in these;
--- they are read to know what the theorems claim.
+-- what demand 3 says of a run of calls, of points in it, of stays, of changes of severity and of lotlog. No promise is
+-- written in these; they are read to know what the theorems claim.
 pub mod PlanRules
 pub mod Reporting
 pub mod Judging

@@ -1,5 +1,5 @@
 -- Document 01, 'Severity record': the record of one supply, its range, what each event makes of it, and the score of
--- a lot. Definitions only.
+-- a lot, which in stages is that of document 02, T-02. Definitions only.
 use Prim.Native.Nat.{ℕ, zero, suc, _+_, _*_, _%_, min}
 use mathlib.Core.Bool.{Bool, true, false, cond, _&&_, not}
 use mathlib.Core.List.{[], _∷_}
@@ -172,6 +172,11 @@ counted severity accepted points = cond accepted (cond (eqb severity normal) poi
 abbrev pub singlePoints : ℕ → ℕ → ℕ → Lot
 singlePoints ac tighter total = cond (leb 2 ac) (cond (leb total tighter) addThree scoreZero) addTwo
 
--- "Staged: add 3 if accepted at the first stage, else score 0", by the stage that accepted and how many there are
+-- Document 01, "Staged: add 3 if accepted at the first stage"; document 02, T-02, "That's right for two stages. For
+-- three or more, add 3 when accepted at stage 1, 2 or 3". By the stage, counted from 1, and how many there are.
+abbrev pub earnsThree : ℕ → ℕ → Bool
+earnsThree stage stages = cond (leb 3 stages) (leb 1 stage && leb stage 3) (eqb stage 1)
+
+-- "else score 0"
 abbrev pub stagedPoints : ℕ → ℕ → Lot
-stagedPoints stage stages = cond (eqb stage 1) addThree scoreZero
+stagedPoints stage stages = cond (earnsThree stage stages) addThree scoreZero

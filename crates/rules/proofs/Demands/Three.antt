@@ -1,13 +1,14 @@
--- Demand 3, each sentence a theorem, of histories and of runs of calls; what a run records; and by what each severity
--- is left. A history is its events, newest first; those of a history of bytes are `past w h (length h)`, the bytes'
--- events turned round (`past-whole`). A run starts from a fresh record, and refused calls are dropped. For any
--- permission at the start, and any work.
+-- Demand 3, each sentence a theorem, of histories and of runs of calls; what a run records; by what each severity is
+-- left; and of document 02, fractions and the points of staged lots. A history is its events, newest first; those of a
+-- history of bytes are `past w h (length h)`, the bytes' events turned round (`past-whole`). A run starts from a fresh
+-- record, and refused calls are dropped. For any permission at the start, and any work.
 -- Assumes nothing.
-use Prim.Native.Nat.{ℕ}
+use Prim.Native.Nat.{ℕ, suc}
 use mathlib.Core.Path.{_≡_, sym, ap, _∙_}
-use mathlib.Core.Bool.{Bool, true, not}
+use mathlib.Core.Bool.{Bool, true, false, not}
 use mathlib.Core.List.{List, [], _∷_, _++_, map, reverse}
 use mathlib.Core.Logic.{_⊎_, inl, inr}
+use native.Mathlib.Omega.{arith}
 use lib.IntN.{ℤ}
 use lib.ListN.{length, take}
 use Rattle.rules.specs.Refusals.{Answer, given}
@@ -17,10 +18,13 @@ use Rattle.rules.specs.Severity.{Lot, Origin, typed, lot}
 use Rattle.rules.specs.Severity.{Event, resubmitted, corrective, Record, fresh, step, inRange}
 use Rattle.rules.specs.Supply.{Supply, freshSupply, countsOn, supplyInRange}
 use Rattle.rules.specs.CleanReading.{originsIn, allOrigins, presentLots, supplyRead}
+use Rattle.rules.specs.Staged.{StagedPlan}
 use Rattle.rules.specs.Fractional.{FractionalPlan}
 use Rattle.rules.specs.Reading.{severityRead, recordRead, staysIn, isResubmitted}
 use Rattle.rules.specs.Reading.{withoutResubmitted, severitiesAt, steadyIn, permissionIn}
 use Rattle.rules.specs.History.{Work, knows, eventOf, eventIn, afterFrom, after, past, afterHistory, withoutFours}
+use Rattle.rules.specs.Entries.{Closed, askedOn, stagedCounts}
+use Rattle.rules.specs.Scoring.{EntersByStage}
 use Rattle.rules.specs.Entries.{Asked, Offered, closeSingle, closeStaged, closeFractional}
 use Rattle.rules.specs.Entries.{closeTotal, next, moved, judgeSingle, judgeStaged, judgeTotal, judgeFractional}
 use Rattle.rules.specs.Runs.{Call, single, fractional, staged, total, byte, sequential, variables, entered}
@@ -32,6 +36,9 @@ use Rattle.rules.specs.Switching.{AcceptedAfter, FractionCounts, Every, 
 use Rattle.rules.specs.Switching.{TightenedLeft, ReducedLeft}
 use Rattle.rules.specs.Switching.{ReducedStarts}
 use Rattle.rules.proofs.Demands.Two.{close-single-given, close-staged-given, close-total-given}
+use Rattle.rules.proofs.Demands.Two.{judge-staged-given}
+use Rattle.rules.proofs.GivenPlans.{staged-given}
+use Rattle.rules.proofs.Points.{staged-counts}
 use Rattle.rules.proofs.Range.{step-range, after-range}
 use Rattle.rules.proofs.Agreement.{agree, severity-agrees, orders-agree}
 use Rattle.rules.proofs.Stays.{tightened-stays, stays-whole}
@@ -381,3 +388,28 @@ pub run-present : (w : Work) (cs : List Call)
     → originsIn (w .permission) (eventsRan w cs)
     ≡ take (length (presentLots (staysIn (w .permission) (eventsRan w cs)))) (allOrigins (eventsRan w cs))
 run-present w cs = origins-newest (w .permission) (eventsRan w cs)
+
+-- 8. Points of staged lots: on a record that is lent; and in a run, at the severity that the written reading finds.
+-- Document 02, T-02: "Demand 3 reads this rule from now on". Which stage decides is said by `judge-staged-given`, the
+-- record after by `close-staged-given` and `original-lot`, and what the run records by `run-closes-staged`.
+pub closed-by-stage : (s : Supply) (o : Offered) (book sample : List ℕ) (c : Closed StagedPlan)
+    → closeStaged s o book sample ≡ given c → o .again ≡ false → EntersByStage (s .switching .severity) c
+closed-by-stage s o book sample c g a =
+    let k = close-staged-given s o book sample c .0 g in
+    let j = judge-staged-given (askedOn (s .switching) o) book sample (c .judged) .0 (k .as-judged) in
+    let ofPlan : c .judged .plan .stages ≡ c .judged .verdict .stages =
+    ap (λ (v : Verdict). v .stages) (j .1 .verdict) in
+    let stage : suc (j .1 .done) ≡ c .judged .verdict .stage = ap (λ (v : Verdict). v .stage) (j .1 .verdict) in
+    record {
+      few = staged-given (askedOn (s .switching) o) book (c .judged .plan) (j .0) .few;
+      among = (omega (arith, stage), omega (arith, stage, j .1 .among));
+      counts = stagedCounts (s .switching) o (c .judged);
+      enters = rw a at (k .stands);
+      as-said = rw ofPlan (staged-counts (s .switching) o (c .judged));
+    }
+
+pub run-counts-stages : (w : Work) (cs : List Call) (o : Offered) (book sample : List ℕ) (c : Closed StagedPlan)
+    → closeStaged (ran w cs) o book sample ≡ given c → o .again ≡ false
+    → EntersByStage (severityRead (w .permission) (eventsRan w cs)) c
+run-counts-stages w cs o book sample c g a =
+    rw (← run-severity w cs) (closed-by-stage (ran w cs) o book sample c g a)
