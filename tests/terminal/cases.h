@@ -16,7 +16,7 @@ void fraction_cases(void);
 /* Every fraction by every run and total, every clean run in a record by every event, every short run of mixed calls. */
 void every_fraction(void);
 
-/* T-02: every stage of every number of stages, accepted there and not, by every record that has no clean run. */
+/* T-02: every stage of every number of stages, accepted there and not, by every record but stopped and clean runs. */
 void every_stage(void);
 
 /* Every mixture of what a lot can be refused for, in each function that takes one. */

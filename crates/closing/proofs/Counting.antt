@@ -4,11 +4,13 @@ use Prim.Native.Nat.{ℕ, _≤_, _<_}
 use mathlib.Core.Path.{_≡_, sym, ap, _∙_}
 use mathlib.Core.Bool.{Bool, true, false, _&&_}
 use lib.Dec.{leb, ltb, eqb}
+use native.Mathlib.Omega.{arith}
 use borrow.Author.Tests.{le-leb, lt-leb}
 use Rattle.rules.specs.Codes.{countsItems}
 use Rattle.rules.specs.Severity.{Lot, addThree, addTwo, scoreZero, Origin, lot, singlePoints}
 use Rattle.rules.specs.Severity.{earnsThree, stagedPoints}
 use Rattle.rules.specs.Entries.{Offered, eventFor}
+use Rattle.rules.proofs.Points.{two-as-before, more-by-third}
 
 module _ (ac tighter total : ℕ) where
   pub single-three : 2 ≤ ac → total ≤ tighter → addThree ≡ singlePoints ac tighter total
@@ -22,13 +24,13 @@ module _ (ac tighter total : ℕ) where
 
 module _ (stage stages : ℕ) where
   pub by-third : 3 ≤ stages → 1 ≤ stage → leb stage 3 ≡ earnsThree stage stages
-  by-third h k = rw (le-leb 3 stages h, le-leb 1 stage k)
+  by-third h k = rw (more-by-third stage stages h, le-leb 1 stage k)
 
   pub before-all : 3 ≤ stages → stage < 1 → false ≡ earnsThree stage stages
-  before-all h k = rw (le-leb 3 stages h, lt-leb 1 stage k)
+  before-all h k = rw (more-by-third stage stages h, lt-leb 1 stage k)
 
   pub of-two : stages < 3 → eqb stage 1 ≡ earnsThree stage stages
-  of-two h = rw (lt-leb 3 stages h)
+  of-two h = sym (two-as-before stage stages (omega arith))
 
   module _ (earns : Bool) (e : earns ≡ earnsThree stage stages) where
     pub staged-three : earns ≡ true → addThree ≡ stagedPoints stage stages

@@ -2,6 +2,7 @@
 // answer.
 use super::BOOK;
 use super::NO_BOOK;
+use super::offered_of_l;
 use super::say;
 use super::say_answer;
 use super::say_letter;
@@ -181,13 +182,7 @@ fn fractions() {
 fn broken_runs() {
     one_bad(b"two clean, then byte 0: ", typed(two_clean(), 0));
     let six = [0u8; 12];
-    let ten = Offered {
-        again: false,
-        size: 10000,
-        level: II,
-        column: 10,
-    };
-    let staged = sentencing::close_staged(two_clean(), ten, &BOOK, &six).answer;
+    let staged = sentencing::close_staged(two_clean(), offered_of_l(), &BOOK, &six).answer;
     one_bad(b"then a staged lot: ", after(staged));
     let single = sentencing::close_single(two_clean(), lot_of_a(8), &NO_BOOK, &six[..10]).answer;
     one_bad(b"then the same box with its arrow: ", after(single));

@@ -3,6 +3,7 @@
 mod fractions;
 mod stages;
 
+use closing::Offered;
 use history::Listed;
 use libc::STDOUT_FILENO;
 use plans::Asked;
@@ -185,6 +186,16 @@ fn lot_of_l(column: u32) -> Asked {
     }
 }
 
+// The same lot, offered to be closed by its stages.
+fn offered_of_l() -> Offered {
+    Offered {
+        again: false,
+        size: 10000,
+        level: 5,
+        column: 10,
+    }
+}
+
 fn say_part(name: &[u8], n: u16) {
     say(name);
     say_number(n as u64);
@@ -358,13 +369,19 @@ fn sequential_samples() {
     sequential(b"10 bad of 98: ", &last);
 }
 
+// Running totals 1, 2, 2, 2, 3 in stages of 3.
+fn five_totals() -> [u8; 30] {
+    let mut items = [0u8; 30];
+    items[0] = 1;
+    items[6] = 1;
+    items[24] = 1;
+    items
+}
+
 fn staged_samples() {
     let clean = [0u8; 12];
     staged(b"six clean items in stages of 3: ", &clean);
-    let mut five = [0u8; 30];
-    five[0] = 1;
-    five[6] = 1;
-    five[24] = 1;
+    let five = five_totals();
     staged(b"totals 1,2,2,2,3 in stages of 3: ", &five);
 }
 

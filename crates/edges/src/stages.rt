@@ -1,5 +1,7 @@
 // Document 02, T-02: what a staged lot does to the score, by the stage that accepts it and how many there are.
 use super::BOOK;
+use super::five_totals;
+use super::offered_of_l;
 use super::say;
 use super::say_number;
 use super::say_refusal;
@@ -89,22 +91,13 @@ fn five_stages() {
 
 // The five stages of 3 of document 01.
 fn stages_of_three() {
-    let lot = Offered {
-        again: false,
-        size: 10000,
-        level: 5,
-        column: 10,
-    };
     let clean = [0u8; 12];
     say(b"six clean items in stages of 3: ");
-    let answer = sentencing::close_staged(scored(5, false), lot, &BOOK, &clean).answer;
+    let answer = sentencing::close_staged(scored(5, false), offered_of_l(), &BOOK, &clean).answer;
     say_closed(answer);
-    let mut five = [0u8; 30];
-    five[0] = 1;
-    five[6] = 1;
-    five[24] = 1;
+    let five = five_totals();
     say(b"totals 1,2,2,2,3 in stages of 3: ");
-    let answer = sentencing::close_staged(scored(5, false), lot, &BOOK, &five).answer;
+    let answer = sentencing::close_staged(scored(5, false), offered_of_l(), &BOOK, &five).answer;
     say_closed(answer);
 }
 

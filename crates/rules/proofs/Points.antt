@@ -16,10 +16,10 @@ use Rattle.rules.specs.Verdict.{Verdict, Judged}
 use Rattle.rules.specs.Single.{Plan, tablePlan, landing, boxAt, tighterAc}
 use Rattle.rules.specs.Staged.{StagedPlan, stagesFrom, totalSize, stageDecides, takeItems, stagedFrom}
 use Rattle.rules.specs.Staged.{judgeStages}
-use Rattle.rules.specs.Severity.{Lot, addThree, scoreZero, sampled, lot, resubmitted}
+use Rattle.rules.specs.Severity.{Lot, sampled, lot, resubmitted}
 use Rattle.rules.specs.Supply.{Supply, supplyOf, noRun, move, cleanInRange}
 use Rattle.rules.specs.Severity.{Record, onNormal, onLot, step, figuresInRange, counted, singlePoints}
-use Rattle.rules.specs.Severity.{stagedPoints, onTightened, onResubmitted}
+use Rattle.rules.specs.Severity.{earnsThree, stagedPoints, onTightened, onResubmitted}
 use Rattle.rules.specs.History.{byteOf, ours, eventOf, eventIn}
 use Rattle.rules.specs.Book.{checkBook, checkedAs, sections, section, entries, entry, shift, thenFrom, keyFalls}
 use Rattle.rules.specs.Book.{rises, numbersFrom, right, stagedRule, stagedNumber, acKeeps, reKeeps, sameKey}
@@ -40,20 +40,20 @@ single-points ac tighter total = record {
 
 module _ (stage stages : ℕ) where
   -- "That's right for two stages": the rule of document 01, as before
-  pub two-as-before : stages ≤ 2 → stagedPoints stage stages ≡ cond (eqb stage 1) addThree scoreZero
+  pub two-as-before : stages ≤ 2 → earnsThree stage stages ≡ eqb stage 1
   two-as-before m = rw (lt-leb 3 stages (omega arith))
 
   -- "For three or more, .. stage 1, 2 or 3"
-  pub more-by-third : 3 ≤ stages → stagedPoints stage stages ≡ cond (leb 1 stage && leb stage 3) addThree scoreZero
+  pub more-by-third : 3 ≤ stages → earnsThree stage stages ≡ (leb 1 stage && leb stage 3)
   more-by-third m = rw (le-leb 3 stages m)
 
   staged-points : StagedPoints stage stages (stagedPoints stage stages)
   staged-points = record {
-    first-of-two = λ m h. two-as-before m ∙ (rw h);
-    later-of-two = λ m h. two-as-before m ∙ (rw (ne-eqb stage 1 h));
-    by-third = λ m a h. more-by-third m ∙ (rw (le-leb 1 stage a, le-leb stage 3 h));
-    past-third = λ m h. more-by-third m ∙ (rw (le-leb 1 stage (omega arith), lt-leb stage 3 h));
-    before-first = λ m h. more-by-third m ∙ (rw h);
+    first-of-two = λ m h. rw (two-as-before m, h);
+    later-of-two = λ m h. rw (two-as-before m, ne-eqb stage 1 h);
+    by-third = λ m a h. rw (more-by-third m, le-leb 1 stage a, le-leb stage 3 h);
+    past-third = λ m h. rw (more-by-third m, le-leb 1 stage (omega arith), lt-leb stage 3 h);
+    before-first = λ m h. rw (more-by-third m, h);
   }
 
 counts-as : (severity : ℕ) (accepted : Bool) (Points : Lot → Type 0) (l : Lot) → Points l
