@@ -9,6 +9,11 @@
 typedef uint32_t judge(uint32_t size, uint32_t level, uint32_t column, uint32_t severity, const uint8_t *book,
                        size_t book_len, const uint8_t *sample, size_t sample_len, uint8_t *accepted, uint16_t *used);
 
+/* The book of four lists of rows. */
+typedef uint32_t writer(const uint8_t *reduced, size_t reduced_len, const uint8_t *staged, size_t staged_len,
+                        const uint8_t *sequential, size_t sequential_len, const uint8_t *variables,
+                        size_t variables_len, uint8_t *out, size_t out_len, uint32_t *written);
+
 enum { PROVED, PLAIN, SIDES };
 
 struct side {
@@ -25,6 +30,7 @@ struct side {
                                  const uint8_t *sample, size_t sample_len, uint8_t *accepted, uint16_t *used,
                                  uint8_t *byte);
     uint32_t (*check_book)(const uint8_t *book, size_t book_len);
+    writer *write_book;
     uint64_t (*list)(const uint8_t *history, size_t len, uint8_t *severities, size_t room);
 };
 

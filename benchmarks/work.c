@@ -11,13 +11,13 @@
 
 const struct side sides[SIDES] = {
     {hm_plan, hm_fractional_plan, hm_single, hm_staged, hm_sequential, hm_variables_upper, hm_close_fractional,
-     hm_check_book, hm_list},
+     hm_check_book, hm_write_book, hm_list},
     {ref_plan, ref_fractional_plan, ref_single, ref_staged, ref_sequential, ref_variables_upper, ref_close_fractional,
-     ref_check_book, ref_list},
+     ref_check_book, ref_write_book, ref_list},
 };
 
 enum { MOST_ITEMS = 14000, MOST_HISTORY = 1000000, STAGES = 7 };
-enum { BANDS = 15, LEVELS = 7, LETTERS = 16, COLUMNS = 26, ITEM_COLUMNS = 16 };
+enum { SECTIONS = 4, BANDS = 15, LEVELS = 7, LETTERS = 16, COLUMNS = 26, ITEM_COLUMNS = 16 };
 
 /* The step from a lot to the next one is a prime, and reaches them all. */
 enum { LOTS = 2 * BANDS * LEVELS * COLUMNS * 2, SCATTER = 7919 };
@@ -27,40 +27,51 @@ struct lot {
 };
 
 static struct lot lot, lots[LOTS];
-static size_t calls, book_len, sample_len, history_len;
-static uint8_t book[HM_BOOK_BYTES], sample[2 * MOST_ITEMS], history[MOST_HISTORY], listed[MOST_HISTORY];
-static uint8_t supply[HM_RECORD_BYTES];
+static size_t calls, rows_len[SECTIONS], sample_len, history_len;
+static uint8_t rows[SECTIONS][HM_BOOK_BYTES], book[HM_BOOK_BYTES], out[HM_BOOK_BYTES];
+static uint8_t sample[2 * MOST_ITEMS], history[MOST_HISTORY], listed[MOST_HISTORY], supply[HM_RECORD_BYTES];
+static uint32_t book_len;
 
 static void put(uint8_t *bytes, size_t *len, unsigned number) {
     bytes[(*len)++] = (uint8_t)number;
     bytes[(*len)++] = (uint8_t)(number >> 8);
 }
 
-static void put_book(unsigned number) {
-    put(book, &book_len, number);
+static void put_number(unsigned section, unsigned number) {
+    put(rows[section], &rows_len[section], number);
+}
+
+static void put_numbers(unsigned section, const unsigned *numbers, unsigned n) {
+    for (unsigned i = 0; i < n; i++)
+        put_number(section, numbers[i]);
 }
 
 static void put_item(unsigned number) {
     put(sample, &sample_len, number);
 }
 
+/* The book of the rows that were put; its buffer has HM_BOOK_BYTES. */
+static uint32_t write_rows(writer *by, uint8_t *bytes, uint32_t *len) {
+    return by(rows[0], rows_len[0], rows[1], rows_len[1], rows[2], rows_len[2], rows[3], rows_len[3], bytes,
+              HM_BOOK_BYTES, len);
+}
+
+static void make_book(void) {
+    write_rows(ref_write_book, book, &book_len);
+}
+
+/* A lot with no sample, and a book with no entries. */
 static void begin(struct lot of) {
     lot = of;
-    book_len = sample_len = 0;
+    sample_len = 0;
+    memset(rows_len, 0, sizeof rows_len);
+    make_book();
 }
 
-/* A book with one entry: the numbers of its section, and none in the other three. */
+/* A book with one entry, from its row. */
 static void one_entry(unsigned section, const unsigned *numbers, unsigned n) {
-    for (unsigned i = 0; i < 4; i++) {
-        put_book(i == section);
-        for (unsigned j = 0; i == section && j < n; j++)
-            put_book(numbers[j]);
-    }
-}
-
-static void no_book(void) {
-    for (unsigned i = 0; i < 4; i++)
-        put_book(0);
+    put_numbers(section, numbers, n);
+    make_book();
 }
 
 /* ---- plan look-ups: both ends of each band of Table 1, every level and column, normal and tightened, scattered */
@@ -75,7 +86,6 @@ static struct lot lot_at(unsigned i) {
 
 static void prepare_plans(size_t size) {
     begin((struct lot){0});
-    no_book();
     calls = size;
     for (unsigned i = 0; i < LOTS; i++)
         lots[i] = lot_at(i * SCATTER % LOTS);
@@ -124,7 +134,6 @@ static uint64_t judged(judge *by) {
 static void prepare_single(size_t size) {
     begin(size == 3150 ? (struct lot){500001, HM_LEVEL_III, HM_AQL_0_025, HM_TIGHTENED}
                        : (struct lot){10001, HM_LEVEL_II, HM_AQL_0_15, HM_NORMAL});
-    no_book();
     for (size_t i = 0; i < size; i++)
         put_item(i == size / 2);
 }
@@ -139,7 +148,6 @@ static void prepare_closed(size_t size) {
     bool full = size == 2000;
     begin(full ? (struct lot){500001, HM_LEVEL_III, HM_AQL_0_010, HM_NORMAL}
                : (struct lot){10000, HM_LEVEL_II, HM_AQL_0_10, HM_NORMAL});
-    no_book();
     for (size_t i = 0; i < size; i++)
         put_item(i == size / 2);
     memcpy(supply, (const uint8_t[HM_RECORD_BYTES])HM_FRESH_RECORD, sizeof supply);
@@ -167,10 +175,10 @@ static void prepare_staged(size_t size) {
     begin((struct lot){500001, HM_LEVEL_III, HM_AQL_0_15, HM_NORMAL});
     for (unsigned i = 0; i < STAGES; i++) {
         numbers[4 + i] = stage;
-        numbers[4 + STAGES + 2 * i] = i + 1 < STAGES ? HM_MARK : 21;
-        numbers[4 + STAGES + 2 * i + 1] = 22;
+        numbers[4 + STAGES + i] = i + 1 < STAGES ? HM_MARK : 21;
+        numbers[4 + 2 * STAGES + i] = 22;
     }
-    one_entry(1, numbers, 4 + 3 * STAGES);
+    one_entry(HM_STAGED_SECTION, numbers, 4 + 3 * STAGES);
     for (size_t i = 0; i < size; i++)
         put_item(i % 1000 == 999);
 }
@@ -183,7 +191,7 @@ static uint64_t run_staged(const struct side *side) {
 static void prepare_sequential(size_t size) {
     const unsigned numbers[] = {HM_NORMAL, HM_LETTER_R, HM_AQL_0_15, 65535, 65535, 1000, (unsigned)size, 31};
     begin((struct lot){500001, HM_LEVEL_III, HM_AQL_0_15, HM_NORMAL});
-    one_entry(2, numbers, sizeof numbers / sizeof *numbers);
+    one_entry(HM_SEQUENTIAL_SECTION, numbers, sizeof numbers / sizeof *numbers);
     for (size_t i = 0; i < size; i++)
         put_item(i % 100 == 99);
 }
@@ -200,7 +208,7 @@ static void put_readings(size_t n) {
 static void prepare_variables(size_t size) {
     const unsigned numbers[] = {HM_NORMAL, HM_LETTER_R, HM_AQL_0_15, (unsigned)size, 1500};
     begin((struct lot){500001, HM_LEVEL_III, HM_AQL_0_15, HM_NORMAL});
-    one_entry(3, numbers, sizeof numbers / sizeof *numbers);
+    one_entry(HM_VARIABLES_SECTION, numbers, sizeof numbers / sizeof *numbers);
     put_readings(size);
 }
 
@@ -214,51 +222,65 @@ static uint64_t run_variables(const struct side *side) {
 
 /* ---- a full book, or one with a tenth of its entries; the lot's variables plan is its last entry */
 
+/* The places past the stages are 0. */
 static void put_stages(unsigned stages) {
-    put_book(stages);
-    for (unsigned i = 0; i < stages; i++)
-        put_book(100 * (i + 1));
+    unsigned numbers[1 + 3 * STAGES] = {stages};
     for (unsigned i = 0; i < stages; i++) {
-        put_book(i == 0 ? HM_MARK : i);
-        put_book(stages);
+        numbers[1 + i] = 100 * (i + 1);
+        numbers[1 + STAGES + i] = i == 0 ? HM_MARK : i;
+        numbers[1 + 2 * STAGES + i] = stages;
     }
+    put_numbers(HM_STAGED_SECTION, numbers, 1 + 3 * STAGES);
 }
 
 static void put_body(unsigned section, unsigned stages) {
     static const unsigned bodies[][5] = {{80, 2}, {0}, {1750, 2247, 9570, 98, 9}, {2, 1500}};
     static const unsigned numbers[] = {2, 0, 5, 2};
-    if (section == 1)
+    if (section == HM_STAGED_SECTION)
         put_stages(stages);
-    for (unsigned i = 0; i < numbers[section]; i++)
-        put_book(bodies[section][i]);
+    put_numbers(section, bodies[section], numbers[section]);
 }
 
 static void put_section(unsigned section, unsigned entries, unsigned sevens, unsigned threes) {
-    unsigned columns = section < 2 ? COLUMNS : ITEM_COLUMNS;
-    put_book(entries);
+    unsigned columns = section < HM_SEQUENTIAL_SECTION ? COLUMNS : ITEM_COLUMNS;
     for (unsigned i = 0; i < entries; i++) {
-        if (section > 0)
-            put_book(i / columns / LETTERS);
-        put_book(i / columns % LETTERS);
-        put_book(i % columns);
+        if (section != HM_REDUCED_SECTION)
+            put_number(section, i / columns / LETTERS);
+        put_number(section, i / columns % LETTERS);
+        put_number(section, i % columns);
         put_body(section, i < sevens ? 7 : i < sevens + threes ? 3 : 2);
     }
 }
 
 /* Every reduced, sequential and variables plan that there can be, and staged ones until 32,768 bytes are full. */
-static void prepare_book(size_t size) {
+static void prepare_rows(size_t size) {
     static const unsigned entries[] = {416, 322, 768, 768};
     bool full = size == HM_BOOK_BYTES;
     unsigned part = full ? 1 : 10;
     begin(full ? (struct lot){500001, HM_LEVEL_III, HM_AQL_10, HM_REDUCED}
                : (struct lot){280, HM_LEVEL_I, HM_AQL_1_5, HM_NORMAL});
-    for (unsigned i = 0; i < 4; i++)
+    for (unsigned i = 0; i < SECTIONS; i++)
         put_section(i, entries[i] / part, 100 / part, 4 / part);
+    memset(out, 0, sizeof out); /* what was written earlier must not pass for an answer */
+}
+
+static void prepare_book(size_t size) {
+    prepare_rows(size);
+    make_book();
     put_readings(2);
 }
 
 static uint64_t run_check(const struct side *side) {
     return side->check_book(book, book_len);
+}
+
+static uint64_t run_write(const struct side *side) {
+    uint32_t written = 0;
+    uint64_t digest = write_rows(side->write_book, out, &written);
+    digest = 31 * digest + written;
+    for (size_t i = 0; i < written; i += 97)
+        digest = 31 * digest + out[i];
+    return digest;
 }
 
 /* ---- histories that go through all severities; each byte is drawn, and those that would be refused are left out */
@@ -299,6 +321,7 @@ const struct work works[WORKS] = {
     {"variables", "readings", 50, 50, 0, prepare_variables, run_variables},
     {"a full book checked", "bytes", HM_BOOK_BYTES, HM_BOOK_BYTES, 500e3, prepare_book, run_check},
     {"a full book checked and searched", "bytes", HM_BOOK_BYTES, HM_BOOK_BYTES, 500e3, prepare_book, run_variables},
+    {"a full book written", "bytes", HM_BOOK_BYTES, HM_BOOK_BYTES, 500e3, prepare_rows, run_write},
     {"a supply's history listed", "bytes", MOST_HISTORY, 10000, 20e6, prepare_history, run_history},
     {"a history of any bytes listed", "bytes", MOST_HISTORY, 10000, 20e6, prepare_any_history, run_history},
 };

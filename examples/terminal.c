@@ -1,7 +1,7 @@
 /*
- * A bench's day through the C terminal, with a small typed book: the plans of a lot, a lot of each kind sentenced, then
- * lots closed on the record of their supply, with a history that is kept and listed; last, small lots of another supply
- * in the mode of fractions.
+ * A bench's day through the C terminal: a small book written from its entries and read back; the plans of a lot, a lot
+ * of each kind sentenced, then lots closed on the record of their supply, with a history that is kept and listed; last,
+ * small lots of another supply in the mode of fractions.
  * Link with libterminal.a. What it prints stands in terminal.out.
  */
 #include "../include/hipomoake.h"
@@ -12,32 +12,45 @@
 /* The lot: 1,000 items, level II, AQL 1.0. Table 1 gives letter J. */
 enum { SIZE = 1000, LEVEL = HM_LEVEL_II, COLUMN = HM_AQL_1_0 };
 
-/* A number of the book: 16 bits, low byte first. */
+/* A number in bytes: 16 bits, low byte first; and seven of them, the places that a row has for stages. */
 #define NUMBER(x) (uint8_t)((x)&0xff), (uint8_t)((x) >> 8)
+#define SEVEN(a, b, c, d, e, f, g) NUMBER(a), NUMBER(b), NUMBER(c), NUMBER(d), NUMBER(e), NUMBER(f), NUMBER(g)
 
 /* clang-format off */
-static const uint8_t book[] = {
-    /* reduced singles: letter, column, n, Ac */
-    NUMBER(1),
+
+/* The entries of the book: four lists of rows. */
+static const uint8_t reduced[] = { /* letter, column, n, Ac */
     NUMBER(HM_LETTER_J), NUMBER(HM_AQL_1_0), NUMBER(32), NUMBER(1),
-    /* staged: severity, letter, column, stages, sizes; then Ac and Re of each stage */
-    NUMBER(2),
+};
+static const uint8_t staged[] = { /* severity, letter, column, stages, seven sizes, seven Ac, seven Re */
     NUMBER(HM_NORMAL), NUMBER(HM_LETTER_H), NUMBER(HM_AQL_1_0), NUMBER(5),
-    NUMBER(13), NUMBER(13), NUMBER(13), NUMBER(13), NUMBER(13),
-    NUMBER(HM_MARK), NUMBER(3), NUMBER(0), NUMBER(3), NUMBER(1), NUMBER(4), NUMBER(2), NUMBER(4), NUMBER(4), NUMBER(5),
-    NUMBER(HM_NORMAL), NUMBER(HM_LETTER_J), NUMBER(HM_AQL_1_0), NUMBER(2), NUMBER(50), NUMBER(50),
-    NUMBER(0), NUMBER(3), NUMBER(3), NUMBER(4),
-    /* sequential: severity, letter, column, hA, hR, g, nt, At */
-    NUMBER(1),
+    SEVEN(13, 13, 13, 13, 13, 0, 0), SEVEN(HM_MARK, 0, 1, 2, 4, 0, 0), SEVEN(3, 3, 4, 4, 5, 0, 0),
+    NUMBER(HM_NORMAL), NUMBER(HM_LETTER_J), NUMBER(HM_AQL_1_0), NUMBER(2),
+    SEVEN(50, 50, 0, 0, 0, 0, 0), SEVEN(0, 3, 0, 0, 0, 0, 0), SEVEN(3, 4, 0, 0, 0, 0, 0),
+};
+static const uint8_t sequential[] = { /* severity, letter, column, hA, hR, g, nt, At */
     NUMBER(HM_NORMAL), NUMBER(HM_LETTER_J), NUMBER(HM_AQL_1_0),
     NUMBER(1750), NUMBER(2247), NUMBER(9570), NUMBER(98), NUMBER(9),
-    /* variables: severity, letter, column, n, K */
-    NUMBER(1),
+};
+static const uint8_t variables[] = { /* severity, letter, column, n, K */
     NUMBER(HM_NORMAL), NUMBER(HM_LETTER_J), NUMBER(HM_AQL_1_0), NUMBER(3), NUMBER(3500),
 };
+
+/* A key typed twice does not rise: the second row is bad. */
+static const uint8_t key_twice[] = {
+    NUMBER(HM_NORMAL), NUMBER(HM_LETTER_J), NUMBER(HM_AQL_1_0), NUMBER(3), NUMBER(3500),
+    NUMBER(HM_NORMAL), NUMBER(HM_LETTER_J), NUMBER(HM_AQL_1_0), NUMBER(4), NUMBER(3500),
+};
+
 /* clang-format on */
 
+static uint8_t book[HM_BOOK_BYTES];
+static uint32_t book_len;
+
 static const char severity_letters[] = "NTRX";
+static const char *const aqls[] = {"0.010", "0.015", "0.025", "0.040", "0.065", "0.10", "0.15", "0.25", "0.40",
+                                   "0.65",  "1.0",   "1.5",   "2.5",   "4.0",   "6.5",  "10",   "15",   "25",
+                                   "40",    "65",    "100",   "150",   "250",   "400",  "650",  "1000"};
 static uint8_t sample[2 * 3150];
 
 /* A sample of n items, the first of which do not conform. Gives its bytes. */
@@ -55,6 +68,64 @@ static int is_answered(const char *what, uint32_t status) {
     return status == HM_ANSWERED;
 }
 
+/* ---- the book: written from its entries, and read back */
+
+static void write_book(const char *what, const uint8_t *last_list, size_t last_len) {
+    uint32_t status = hm_write_book(reduced, sizeof reduced, staged, sizeof staged, sequential, sizeof sequential,
+                                    last_list, last_len, book, sizeof book, &book_len);
+    if (is_answered(what, status))
+        printf("%-16s %u bytes\n", what, (unsigned)book_len);
+}
+
+/* A row of stages begins with their sizes. */
+static void print_stages(const uint8_t *row, unsigned stages) {
+    for (unsigned i = 0; i < stages; i++) {
+        unsigned ac = HM_STAGE_AC(row, i);
+        printf("%s %u items, Ac ", i > 0 ? ";" : "", HM_STAGE_SIZE(row, i));
+        if (ac == HM_MARK)
+            printf("#"); /* no acceptance at this stage */
+        else
+            printf("%u", ac);
+        printf(", Re %u", HM_STAGE_RE(row, i));
+    }
+}
+
+/* The key of a reduced single has no severity. */
+static void print_entry(const char *what, unsigned section, const uint8_t *row, unsigned numbers) {
+    static const char *const names[][5] = {[HM_REDUCED_SECTION] = {"n", "Ac"},
+                                           [HM_SEQUENTIAL_SECTION] = {"hA", "hR", "g", "nt", "At"},
+                                           [HM_VARIABLES_SECTION] = {"n", "K"}};
+    unsigned keys = section == HM_REDUCED_SECTION ? 2 : 3;
+    char severity = severity_letters[section == HM_REDUCED_SECTION ? HM_REDUCED : HM_NUMBER_AT(row, 0)];
+    printf("%-16s severity %c, letter %c, AQL %s:", what, severity, HM_LETTERS[HM_NUMBER_AT(row, keys - 2)],
+           aqls[HM_NUMBER_AT(row, keys - 1)]);
+    if (section == HM_STAGED_SECTION)
+        print_stages(HM_ENTRY_STAGES(row), HM_NUMBER_AT(row, keys));
+    else
+        for (unsigned i = keys; i < numbers; i++)
+            printf("%s %s %u", i > keys ? "," : "", names[section][i - keys], HM_NUMBER_AT(row, i));
+    printf("\n");
+}
+
+static void print_section(const char *what, unsigned section) {
+    uint8_t row[HM_ENTRY_BYTES];
+    uint32_t count = 0, numbers = 0;
+    if (!is_answered(what, hm_count_entries(book, book_len, section, &count)))
+        return;
+    for (unsigned nth = 0; nth < count; nth++)
+        if (is_answered(what, hm_read_entry(book, book_len, section, nth, row, sizeof row, &numbers)))
+            print_entry(what, section, row, numbers);
+}
+
+static void print_book(void) {
+    if (is_answered("book, checked", hm_check_book(book, book_len)))
+        printf("%-16s sound\n", "book, checked");
+    print_section("book, reduced", HM_REDUCED_SECTION);
+    print_section("book, staged", HM_STAGED_SECTION);
+    print_section("book, sequential", HM_SEQUENTIAL_SECTION);
+    print_section("book, variables", HM_VARIABLES_SECTION);
+}
+
 /* ---- plans: what to draw */
 
 static void print_letter(void) {
@@ -66,26 +137,17 @@ static void print_letter(void) {
 static void print_single_plan(const char *what, uint32_t severity) {
     uint8_t letter;
     uint16_t n, ac;
-    if (is_answered(what, hm_plan(SIZE, LEVEL, COLUMN, severity, book, sizeof book, &letter, &n, &ac)))
+    if (is_answered(what, hm_plan(SIZE, LEVEL, COLUMN, severity, book, book_len, &letter, &n, &ac)))
         printf("%-16s letter %c, n %u, Ac %u\n", what, HM_LETTERS[letter], n, ac);
 }
 
 static void print_staged_plan(void) {
     uint8_t letter, stages, row[HM_STAGED_ROW_BYTES];
-    uint32_t status =
-        hm_staged_plan(SIZE, LEVEL, COLUMN, HM_NORMAL, book, sizeof book, &letter, &stages, row, sizeof row);
+    uint32_t status = hm_staged_plan(SIZE, LEVEL, COLUMN, HM_NORMAL, book, book_len, &letter, &stages, row, sizeof row);
     if (!is_answered("staged plan", status))
         return;
     printf("%-16s", "staged plan");
-    for (unsigned i = 0; i < stages; i++) {
-        unsigned ac = HM_STAGE_AC(row, i);
-        printf("%s %u items, Ac ", i > 0 ? ";" : "", HM_STAGE_SIZE(row, i));
-        if (ac == HM_MARK)
-            printf("-"); /* no acceptance at this stage */
-        else
-            printf("%u", ac);
-        printf(", Re %u", HM_STAGE_RE(row, i));
-    }
+    print_stages(row, stages);
     printf("\n");
 }
 
@@ -93,10 +155,10 @@ static void print_other_plans(void) {
     uint8_t letter;
     uint16_t ha, hr, g, nt, at, n, k;
     uint32_t status =
-        hm_sequential_plan(SIZE, LEVEL, COLUMN, HM_NORMAL, book, sizeof book, &letter, &ha, &hr, &g, &nt, &at);
+        hm_sequential_plan(SIZE, LEVEL, COLUMN, HM_NORMAL, book, book_len, &letter, &ha, &hr, &g, &nt, &at);
     if (is_answered("sequential plan", status))
         printf("%-16s hA %u, hR %u, g %u, nt %u, At %u\n", "sequential plan", ha, hr, g, nt, at);
-    status = hm_variables_plan(SIZE, LEVEL, COLUMN, HM_NORMAL, book, sizeof book, &letter, &n, &k);
+    status = hm_variables_plan(SIZE, LEVEL, COLUMN, HM_NORMAL, book, book_len, &letter, &n, &k);
     if (is_answered("variables plan", status))
         printf("%-16s n %u, k %u\n", "variables plan", n, k);
 }
@@ -112,19 +174,19 @@ static void judge_items(void) {
     uint8_t accepted = 0;
     uint16_t used = 0;
     size_t len = draw_sample(80, 1);
-    uint32_t status = hm_single(SIZE, LEVEL, COLUMN, HM_NORMAL, book, sizeof book, sample, len, &accepted, &used);
+    uint32_t status = hm_single(SIZE, LEVEL, COLUMN, HM_NORMAL, book, book_len, sample, len, &accepted, &used);
     print_verdict("single", status, accepted, used);
     len = draw_sample(100, 2);
-    status = hm_staged(SIZE, LEVEL, COLUMN, HM_NORMAL, book, sizeof book, sample, len, &accepted, &used);
+    status = hm_staged(SIZE, LEVEL, COLUMN, HM_NORMAL, book, book_len, sample, len, &accepted, &used);
     print_verdict("staged", status, accepted, used);
     len = draw_sample(50, 3);
-    status = hm_staged(SIZE, LEVEL, COLUMN, HM_NORMAL, book, sizeof book, sample, len, &accepted, &used);
+    status = hm_staged(SIZE, LEVEL, COLUMN, HM_NORMAL, book, book_len, sample, len, &accepted, &used);
     print_verdict("staged, 3 bad", status, accepted, used);
     len = draw_sample(19, 0);
-    status = hm_sequential(SIZE, LEVEL, COLUMN, HM_NORMAL, book, sizeof book, sample, len, &accepted, &used);
+    status = hm_sequential(SIZE, LEVEL, COLUMN, HM_NORMAL, book, book_len, sample, len, &accepted, &used);
     print_verdict("sequential", status, accepted, used);
     len = draw_sample(20, 0);
-    status = hm_sequential(SIZE, LEVEL, COLUMN, HM_NORMAL, book, sizeof book, sample, len, &accepted, &used);
+    status = hm_sequential(SIZE, LEVEL, COLUMN, HM_NORMAL, book, book_len, sample, len, &accepted, &used);
     print_verdict("one item more", status, accepted, used);
 }
 
@@ -133,11 +195,11 @@ static void judge_readings(void) {
     uint8_t accepted = 0, both = 0;
     uint16_t used = 0;
     double mean = 0, variance = 0;
-    uint32_t status = hm_variables_upper(SIZE, LEVEL, COLUMN, HM_NORMAL, book, sizeof book, readings, sizeof readings,
-                                         19, &accepted, &used);
+    uint32_t status = hm_variables_upper(SIZE, LEVEL, COLUMN, HM_NORMAL, book, book_len, readings, sizeof readings, 19,
+                                         &accepted, &used);
     print_verdict("variables, upper", status, accepted, used);
-    status = hm_variables_lower(SIZE, LEVEL, COLUMN, HM_NORMAL, book, sizeof book, readings, sizeof readings, 6,
-                                &accepted, &used);
+    status = hm_variables_lower(SIZE, LEVEL, COLUMN, HM_NORMAL, book, book_len, readings, sizeof readings, 6, &accepted,
+                                &used);
     print_verdict("variables, lower", status, accepted, used);
     if (is_answered("screen", hm_screen(readings, sizeof readings, &mean, &variance, &both)) && both)
         printf("%-16s mean %.3f, variance %.3f\n", "screen", mean, variance);
@@ -166,11 +228,11 @@ static void print_closed(const char *what, uint32_t status, uint8_t accepted, ui
 static void close_single(uint32_t resubmitted, size_t bad) {
     uint8_t letter, accepted = 0;
     uint16_t n, ac, used = 0;
-    uint32_t status = hm_plan(SIZE, LEVEL, COLUMN, supply[HM_RECORD_SEVERITY], book, sizeof book, &letter, &n, &ac);
+    uint32_t status = hm_plan(SIZE, LEVEL, COLUMN, supply[HM_RECORD_SEVERITY], book, book_len, &letter, &n, &ac);
     if (!is_answered("plan", status))
         return;
     size_t len = draw_sample(n, bad);
-    status = hm_close_single(supply, sizeof supply, resubmitted, SIZE, LEVEL, COLUMN, book, sizeof book, sample, len,
+    status = hm_close_single(supply, sizeof supply, resubmitted, SIZE, LEVEL, COLUMN, book, book_len, sample, len,
                              &accepted, &used, &history[history_len]);
     print_closed(resubmitted ? "resubmitted" : "closed", status, accepted, used);
 }
@@ -180,8 +242,8 @@ static void close_staged(uint32_t size, size_t n, size_t bad) {
     uint8_t accepted = 0;
     uint16_t used = 0;
     size_t len = draw_sample(n, bad);
-    uint32_t status = hm_close_staged(supply, sizeof supply, HM_ORIGINAL, size, LEVEL, COLUMN, book, sizeof book,
-                                      sample, len, &accepted, &used, &history[history_len]);
+    uint32_t status = hm_close_staged(supply, sizeof supply, HM_ORIGINAL, size, LEVEL, COLUMN, book, book_len, sample,
+                                      len, &accepted, &used, &history[history_len]);
     print_closed("closed, staged", status, accepted, used);
 }
 
@@ -229,7 +291,7 @@ static size_t print_fractional_plan(void) {
     uint8_t letter, share;
     uint16_t n, ac;
     uint32_t status = hm_fractional_plan(SMALL_SIZE, LEVEL, SMALL_COLUMN, small_supply[HM_RECORD_SEVERITY], book,
-                                         sizeof book, &letter, &n, &ac, &share);
+                                         book_len, &letter, &n, &ac, &share);
     if (!is_answered("small lots", status))
         return 0;
     printf("%-16s letter %c, n %u, Ac ", "small lots", HM_LETTERS[letter], n);
@@ -245,8 +307,8 @@ static void judge_small(size_t n, size_t bad) {
     uint8_t accepted = 0;
     uint16_t used = 0;
     size_t len = draw_sample(n, bad);
-    uint32_t status = hm_fractional(small_supply, sizeof small_supply, SMALL_SIZE, LEVEL, SMALL_COLUMN, book,
-                                    sizeof book, sample, len, &accepted, &used);
+    uint32_t status = hm_fractional(small_supply, sizeof small_supply, SMALL_SIZE, LEVEL, SMALL_COLUMN, book, book_len,
+                                    sample, len, &accepted, &used);
     print_verdict("small, judged", status, accepted, used);
 }
 
@@ -255,7 +317,7 @@ static void close_small(size_t n, size_t bad) {
     uint16_t used = 0;
     size_t len = draw_sample(n, bad);
     uint32_t status = hm_close_fractional(small_supply, sizeof small_supply, HM_ORIGINAL, SMALL_SIZE, LEVEL,
-                                          SMALL_COLUMN, book, sizeof book, sample, len, &accepted, &used, &byte);
+                                          SMALL_COLUMN, book, book_len, sample, len, &accepted, &used, &byte);
     if (is_answered("small, closed", status))
         printf("%-16s %s with %zu bad of %u: byte %u, score %u, clean run %u\n", "small, closed",
                accepted ? "accepted" : "not accepted", bad, used, byte, small_supply[HM_RECORD_SCORE],
@@ -274,8 +336,9 @@ static void close_small_lots(void) {
 }
 
 int main(void) {
-    if (is_answered("book", hm_check_book(book, sizeof book)))
-        printf("%-16s sound, %zu bytes\n", "book", sizeof book);
+    write_book("book, written", variables, sizeof variables);
+    write_book("book, key twice", key_twice, sizeof key_twice); /* refused, and the book stays as it was */
+    print_book();
     print_letter();
     print_single_plan("plan, normal", HM_NORMAL);
     print_single_plan("plan, tightened", HM_TIGHTENED);

@@ -7,19 +7,19 @@
  *
  * STATUS. Every function returns a uint32_t: 0 (HM_ANSWERED) when it answered; else the number of its refusal in the
  * low byte (HM_NUMBER) and the refusal's place in the 24 bits above (HM_PLACE). hm_list alone returns a uint64_t, with
- * 56 bits for the place (HM_LIST_NUMBER, HM_LIST_PLACE). A place is the byte of a broken book, or of a history; where
- * there is neither it is 0. On a refusal nothing is written: all memory holds what it held before the call. Of several
- * reasons to refuse, HM_BROKEN_BOOK is given first, then the lowest number, but for two walks: a staged or sequential
- * sample gives whichever of HM_BAD_LENGTH and HM_BAD_ITEM is met first, and a history its first bad byte before
- * HM_SHORT_BUFFER. No number passed by value is out of bounds: garbage is refused, never undefined.
+ * 56 bits for the place (HM_LIST_NUMBER, HM_LIST_PLACE). A place is the byte of a broken book, or of a history, or the
+ * position of a bad entry; elsewhere it is 0. On a refusal nothing is written: all memory holds what it held before the
+ * call. Of several reasons to refuse, HM_BROKEN_BOOK is given first, then the lowest number, but for two walks: a
+ * staged or sequential sample gives whichever of HM_BAD_LENGTH and HM_BAD_ITEM is met first, and a history its first
+ * bad byte before HM_SHORT_BUFFER. No number passed by value is out of bounds: garbage is refused, never undefined.
  *
  * MEMORY. All memory is the caller's. A function keeps no pointer after it returns, allocates nothing, and has no
  * state of its own: calls on different memory may run at the same time. Pointers are never null (a length of 0 still
  * takes a valid pointer), out-parameters are aligned as their types ask, and what is written overlaps nothing else
  * that is passed. Byte arrays need no alignment. Lengths count bytes.
  *
- * NUMBERS IN BYTES. A number in a book, a sample, a row of readings or a row of stages is 16 bits, low byte first. A
- * reading is in two's complement.
+ * NUMBERS IN BYTES. A number in a book, a sample, a row of readings, of stages or of an entry is 16 bits, low byte
+ * first. A reading is in two's complement.
  *
  * THE LOT, in every function that takes one:
  *   size      items in the lot, 2 or more
@@ -48,6 +48,16 @@
  * lowest that applies: a number out of range, at its start; two numbers that break a rule, at the later; a key that
  * does not rise, at the entry's first number; bytes after section 4, at the first; a number missing or half there, at
  * the length.
+ *
+ * ENTRIES AS ROWS. A book need not be typed: hm_write_book makes one from its entries, and hm_read_entry shows an entry
+ * of one. In both an entry is a row of numbers, two bytes each, which begins with its key:
+ *   reduced singles  letter column n Ac                                     HM_REDUCED_NUMBERS, 4
+ *   staged           severity letter column stages, seven sizes, seven Ac, seven Re; what stands past the entry's own
+ *                    stages counts for nothing, and is shown as 0           HM_STAGED_NUMBERS, 25
+ *   sequential       severity letter column hA hR g nt At                   HM_SEQUENTIAL_NUMBERS, 8
+ *   variables        severity letter column n K                             HM_VARIABLES_NUMBERS, 5
+ * After its first four numbers a staged row is as hm_staged_plan tells one: HM_STAGE_SIZE(HM_ENTRY_STAGES(row), stage),
+ * and so HM_STAGE_AC and HM_STAGE_RE.
  *
  * THE RECORD: HM_RECORD_BYTES bytes, one record for each supply, which starts as HM_FRESH_RECORD. In order:
  * severity; score (0 to 30); run (accepted in a row, 0 to 4) and count (not accepted, 0 to 4) of a tightened stay;
@@ -121,13 +131,15 @@ enum {
     HM_BAD_COLUMN   = 4,  /* a column over HM_AQL_1000 */
     HM_IS_STOPPED   = 5,  /* any lot, resubmitted ones too, while inspection is stopped */
     HM_NO_PLAN      = 6,  /* no book entry under the lot's key; a staged total, nt or variables n above the size; a
-                             fraction at a column over HM_AQL_10 */
+                             fraction at a column over HM_AQL_10; no such entry to read */
     HM_BAD_LENGTH   = 7,  /* a sample of the wrong length, half an item included; for hm_screen not 1 to 50 readings */
     HM_BAD_ITEM     = 8,  /* an item over 1 where items are 0 or 1 */
     HM_BAD_READING  = 9,  /* a reading or a limit not in -1,000 to 1,000 */
     HM_NOT_STOPPED  = 10, /* a corrective order when inspection is not stopped */
-    HM_SHORT_BUFFER = 11, /* fewer severities lent than the history has bytes; a row under HM_STAGED_ROW_BYTES */
-    HM_BROKEN_BOOK  = 12  /* the book breaks its layout, at the byte that is the place; over its length, at 32,768 */
+    HM_SHORT_BUFFER = 11, /* fewer severities lent than the history has bytes; a row too short for a staged plan or an
+                             entry; a book longer than the buffer lent for it, or than HM_BOOK_BYTES */
+    HM_BROKEN_BOOK  = 12  /* the book breaks its layout, at the byte that is the place; over its length, at 32,768; of
+                             entries to write, a bad one, at its position */
 };
 
 /* Inspection levels. */
@@ -190,6 +202,13 @@ enum { HM_WHOLE_AC = 0, HM_ONE_HALF = 2, HM_ONE_THIRD = 3 };
 #define HM_STAGE_SIZE(row, stage) HM_NUMBER_AT(row, stage)
 #define HM_STAGE_AC(row, stage) HM_NUMBER_AT(row, 7 + (stage))
 #define HM_STAGE_RE(row, stage) HM_NUMBER_AT(row, 14 + (stage))
+
+/* The sections of a book by number (section 1 of THE BOOK is 0 here), how many numbers a row of each has, bytes enough
+   for any row, and where in a staged entry's row the row of its stages begins. */
+enum { HM_REDUCED_SECTION, HM_STAGED_SECTION, HM_SEQUENTIAL_SECTION, HM_VARIABLES_SECTION };
+enum { HM_REDUCED_NUMBERS = 4, HM_STAGED_NUMBERS = 25, HM_SEQUENTIAL_NUMBERS = 8, HM_VARIABLES_NUMBERS = 5 };
+#define HM_ENTRY_BYTES 50
+#define HM_ENTRY_STAGES(row) ((row) + 8)
 
 /* clang-format on */
 
@@ -340,6 +359,35 @@ uint64_t hm_list(const uint8_t *history, size_t len, uint8_t *severities, size_t
 
 /* Check a book, as each function that takes one does first. Refuses 12. */
 uint32_t hm_check_book(const uint8_t *book, size_t book_len);
+
+/*
+ * Write the book of these entries: four lists of rows, each row right after the one before it. Within a list the keys
+ * rise, as in a book. A section with no entries is a list of length 0, its pointer valid all the same.
+ *   out      gets the book; its bytes past the book stay. HM_BOOK_BYTES are enough for any book
+ *   written  how many bytes the book has
+ * Refuses 12 at the first bad entry: a number out of range, a rule broken, a key that does not rise after the row
+ * before it, or a row cut short at the end of its list. Its place is the entry's position, counted from 0 through the
+ * four lists. Then 11, for a book longer than out, or than HM_BOOK_BYTES.
+ */
+uint32_t hm_write_book(const uint8_t *reduced, size_t reduced_len, const uint8_t *staged, size_t staged_len,
+                       const uint8_t *sequential, size_t sequential_len, const uint8_t *variables, size_t variables_len,
+                       uint8_t *out, size_t out_len, uint32_t *written);
+
+/*
+ * How many entries a section of a book has, HM_REDUCED_SECTION to HM_VARIABLES_SECTION; one that is not there has 0.
+ * Refuses 12.
+ */
+uint32_t hm_count_entries(const uint8_t *book, size_t book_len, uint32_t section, uint32_t *count);
+
+/*
+ * The entry of a section that is nth from its first, counted from 0, as a row. The book is checked whole at each call.
+ *   row      gets the row, two bytes a number; its bytes past the row stay. HM_ENTRY_BYTES are enough for any
+ *   numbers  how many numbers the row has, by its section: 4, 25, 8 or 5
+ * Refuses 12; then 6 where there is no such entry; then 11 where row has fewer bytes than the section's rows, 8, 50, 16
+ * or 10.
+ */
+uint32_t hm_read_entry(const uint8_t *book, size_t book_len, uint32_t section, uint32_t nth, uint8_t *row,
+                       size_t row_len, uint32_t *numbers);
 
 /*
  * The figures for the screen, of 1 to 50 readings of -1,000 to 1,000.

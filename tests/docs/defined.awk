@@ -25,6 +25,7 @@ function parameters(text, rattle,    parts, n, i, list, word) {
 function signature(text, rattle,    name, list) {
   name = text
   sub(/\(.*/, "", name)
+  sub(/<[^>]*>$/, "", name)
   sub(/^.*[ *]/, "", name)
   tell(name)
   list = parameters(text, rattle)
@@ -76,7 +77,7 @@ held != "" {
 }
 
 rattle {
-  if (match(line, /(^|[ \t])fn +[a-z_0-9]+\(.*/)) {
+  if (match(line, /(^|[ \t])fn +[a-z_0-9]+(<[^>]*>)?\(.*/)) {
     text = substr(line, RSTART, RLENGTH)
     sub(/^.*fn +/, "", text)
     sub(/ *->.*/, "", text)

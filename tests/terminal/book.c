@@ -8,8 +8,7 @@
 
 enum { MARK = 65535, MOST_ITEM_COLUMN = 15 };
 
-static const unsigned key_numbers[SECTIONS] = {2, 3, 3, 3};
-static const unsigned most_column[SECTIONS] = {25, 25, 15, 15};
+const unsigned key_numbers[SECTIONS] = {2, 3, 3, 3}, most_column[SECTIONS] = {25, 25, 15, 15};
 
 /* Where the parts of the book drawn last stand, so that damage can aim. */
 static struct {
@@ -81,11 +80,8 @@ static void draw_stage_sizes(const struct call *c, struct plans *p) {
 }
 
 /* Both rows rise towards the last stage, whose Re is Ac + 1; marks stand before the numbers. */
-static void draw_stage_numbers(const struct call *c, struct plans *p) {
+void draw_stage_numbers(struct plans *p, unsigned last) {
     unsigned marks = one_in(2) ? below(p->stages) : 0, ac = 0, re = one_in(10) ? 0 : 1;
-    unsigned last = c->column > MOST_ITEM_COLUMN ? below(12) : below(5);
-    if (one_in(100))
-        last = one_in(2) ? 65533 : below(65534);
     for (unsigned i = 0; i < p->stages; i++) {
         if (i >= marks)
             ac = i + 1 == p->stages ? last : one_in(2) ? ac : between(ac, last);
@@ -96,9 +92,16 @@ static void draw_stage_numbers(const struct call *c, struct plans *p) {
     }
 }
 
+static unsigned draw_last_ac(const struct call *c) {
+    unsigned last = c->column > MOST_ITEM_COLUMN ? below(12) : below(5);
+    if (one_in(100))
+        last = one_in(2) ? 65533 : below(65534);
+    return last;
+}
+
 static void draw_staged(struct call *c, struct plans *p) {
     draw_stage_sizes(c, p);
-    draw_stage_numbers(c, p);
+    draw_stage_numbers(p, draw_last_ac(c));
     put_book(c, p->stages);
     for (unsigned i = 0; i < p->stages; i++)
         put_book(c, p->size[i]);
@@ -121,12 +124,16 @@ static void draw_sequential_lines(struct plans *p) {
         p->hr = between(1, 65535);
 }
 
-static void draw_sequential(struct call *c, struct plans *p) {
-    draw_sequential_lines(p);
-    p->nt = most_of(draw_total(c, 60, 3150), 1);
+void draw_curtailment(struct plans *p) {
     unsigned line = p->g * p->nt, under = 100 * p->ha, over = line + 100 * p->hr;
     unsigned low = line > under ? (line - under) / 100000 : 0, high = (over + 99999) / 100000 - 1;
     p->at = one_in(3) ? low : one_in(2) ? high : between(low, high);
+}
+
+static void draw_sequential(struct call *c, struct plans *p) {
+    draw_sequential_lines(p);
+    p->nt = most_of(draw_total(c, 60, 3150), 1);
+    draw_curtailment(p);
     put_book(c, p->ha);
     put_book(c, p->hr);
     put_book(c, p->g);
@@ -246,8 +253,7 @@ static void set_number(struct call *c, size_t at, unsigned number) {
     }
 }
 
-/* A number at an edge of some range, or beside the number that stands there. */
-static unsigned edge_number(unsigned present) {
+unsigned edge_number(unsigned present) {
     static const unsigned edges[] = {0,  1,    2,    3,    7,    8,    15,   16,    25,    26,    49,   50,
                                      51, 2000, 2001, 3150, 3151, 4000, 4001, 60000, 60001, 65534, 65535};
     if (one_in(2))

@@ -4,7 +4,7 @@
 
 #include "call.h"
 
-enum { SECTIONS = 4, MOST_ENTRIES = 256, STAGES = 7 };
+enum { MOST_ENTRIES = 256, STAGES = 7 };
 
 /* The bodies that a drawn book holds under the lot's own key, and which of the four there are. */
 struct plans {
@@ -15,6 +15,9 @@ struct plans {
     unsigned n, k;
 };
 
+/* How many numbers the key of a section has, and the last column in it. */
+extern const unsigned key_numbers[SECTIONS], most_column[SECTIONS];
+
 /* Whether the call asks for a plan of the book and draws nothing, so that its numbers may be large. */
 bool only_told(const struct call *call);
 
@@ -23,6 +26,13 @@ void draw_book(struct call *call, bool sure, struct plans *plans);
 
 /* Damages the book that was drawn last. */
 void damage_book(struct call *call);
+
+/* Parts of a sound entry: Ac and Re for the plan's stages, up to the Ac of the last one; At for its other figures. */
+void draw_stage_numbers(struct plans *plans, unsigned last);
+void draw_curtailment(struct plans *plans);
+
+/* A number at an edge of some range, or beside the number that stands there. */
+unsigned edge_number(unsigned present);
 
 /* Appends a number to the call's book or sample. */
 void put_book(struct call *call, unsigned number);

@@ -3,6 +3,7 @@
 
 #include "../../include/hipomoake.h"
 #include "draw.h"
+#include "packed.h"
 #include "reference.h"
 
 #include <stdio.h>
@@ -49,6 +50,10 @@ struct library {
     uint32_t (*next)(uint8_t *, size_t, uint32_t);
     uint64_t (*list)(const uint8_t *, size_t, uint8_t *, size_t);
     uint32_t (*check_book)(const uint8_t *, size_t);
+    uint32_t (*write_book)(const uint8_t *, size_t, const uint8_t *, size_t, const uint8_t *, size_t, const uint8_t *,
+                           size_t, uint8_t *, size_t, uint32_t *);
+    uint32_t (*count_entries)(const uint8_t *, size_t, uint32_t, uint32_t *);
+    uint32_t (*read_entry)(const uint8_t *, size_t, uint32_t, uint32_t, uint8_t *, size_t, uint32_t *);
     uint32_t (*screen)(const uint8_t *, size_t, double *, double *, uint8_t *);
 };
 
@@ -58,7 +63,7 @@ struct library {
         of##_letter, of##_plan, of##_fractional_plan, of##_staged_plan, of##_sequential_plan, of##_variables_plan,     \
             of##_single, of##_staged, of##_sequential, of##_variables_upper, of##_variables_lower, of##_fractional,    \
             of##_close_single, of##_close_staged, of##_close_fractional, of##_next, of##_list, of##_check_book,        \
-            of##_screen                                                                                                \
+            of##_write_book, of##_count_entries, of##_read_entry, of##_screen                                          \
     }
 
 static const struct library proved = LIBRARY(hm), reference = LIBRARY(ref);
@@ -93,6 +98,9 @@ static const struct {
     [NEXT] = {"hm_next", BIT(1) | BIT(5) | BIT(10), false, 0},
     [LIST] = {"hm_list", BIT(1) | BIT(5) | BIT(10) | BIT(11), false, 0},
     [CHECK_BOOK] = {"hm_check_book", BIT(12), false, 0},
+    [WRITE_BOOK] = {"hm_write_book", BIT(11) | BIT(12), false, 0},
+    [COUNT_ENTRIES] = {"hm_count_entries", BIT(12), false, 0},
+    [READ_ENTRY] = {"hm_read_entry", BIT(6) | BIT(11) | BIT(12), false, 0},
     [SCREEN] = {"hm_screen", BIT(7) | BIT(9), false, 0},
 };
 
@@ -106,11 +114,11 @@ static unsigned long fractions[SHARES][RUNS][TOTALS];
 /* ---- lent memory: between random guard bytes, at even and odd addresses, with a copy of what it held */
 
 struct lent {
-    uint8_t room[GUARD + 1 + BOOK_ROOM + GUARD], copy[GUARD + 1 + BOOK_ROOM + GUARD];
+    uint8_t room[GUARD + 1 + LIST_ROOM + GUARD], copy[GUARD + 1 + LIST_ROOM + GUARD];
     size_t start, len;
 };
 
-static struct lent lent_book, lent_sample, lent_out, expected_out;
+static struct lent lent_book, lent_sample, lent_lists[SECTIONS], lent_out, expected_out;
 
 static uint8_t *lend(struct lent *lent, const uint8_t *bytes, size_t len) {
     lent->start = GUARD + below(2);
@@ -139,6 +147,23 @@ static void lend_out(size_t len) {
     expected_out.len = len;
     memcpy(expected_out.room, lent_out.room, lent_out.start + len + GUARD);
     memcpy(expected_out.copy, lent_out.room, lent_out.start + len + GUARD);
+}
+
+/* Only a book to be written takes lists of rows. */
+static void lend_lists(const struct call *c) {
+    for (unsigned i = 0; c->function == WRITE_BOOK && i < SECTIONS; i++)
+        lend(&lent_lists[i], c->lists[i].bytes, c->lists[i].len);
+}
+
+static bool lists_unchanged(const struct call *c) {
+    bool same = true;
+    for (unsigned i = 0; c->function == WRITE_BOOK && i < SECTIONS; i++)
+        same = unchanged(&lent_lists[i]) && same;
+    return same;
+}
+
+static bool takes_out(enum function f) {
+    return f == STAGED_PLAN || f == LIST || f == WRITE_BOOK || f == READ_ENTRY;
 }
 
 const uint8_t *last_out(void) {
@@ -193,6 +218,25 @@ static uint32_t run_plan(const struct library *of, const struct call *c, const u
     }
 }
 
+static const uint8_t *list_lent(unsigned section) {
+    return lent_lists[section].room + lent_lists[section].start;
+}
+
+static uint32_t run_book(const struct library *of, const struct call *c, const uint8_t *book, uint8_t *out,
+                         struct answer *a) {
+    switch (c->function) {
+    case WRITE_BOOK:
+        return of->write_book(list_lent(0), c->lists[0].len, list_lent(1), c->lists[1].len, list_lent(2),
+                              c->lists[2].len, list_lent(3), c->lists[3].len, out, c->out_len, &a->written);
+    case COUNT_ENTRIES:
+        return of->count_entries(book, c->book_len, c->section, &a->count);
+    case READ_ENTRY:
+        return of->read_entry(book, c->book_len, c->section, c->nth, out, c->out_len, &a->numbers);
+    default:
+        return of->check_book(book, c->book_len);
+    }
+}
+
 static uint64_t run(const struct library *of, const struct call *c, const uint8_t *book, const uint8_t *sample,
                     uint8_t *out, struct answer *a) {
     switch (c->function) {
@@ -219,7 +263,10 @@ static uint64_t run(const struct library *of, const struct call *c, const uint8_
     case LIST:
         return of->list(sample, c->sample_len, out, c->out_len);
     case CHECK_BOOK:
-        return of->check_book(book, c->book_len);
+    case WRITE_BOOK:
+    case COUNT_ENTRIES:
+    case READ_ENTRY:
+        return run_book(of, c, book, out, a);
     case SCREEN:
         return of->screen(sample, c->sample_len, &a->mean, &a->variance, &a->both);
     default:
@@ -290,11 +337,11 @@ static void print_side(const char *side, uint64_t status, const struct answer *a
            a->share, a->accepted, a->used, a->byte);
     printf("stages %u; hA %u hR %u g %u nt %u At %u; k %u; mean %g variance %g both %u; ", a->stages, a->ha, a->hr,
            a->g, a->nt, a->at, a->k, a->mean, a->variance, a->both);
-    printf("record");
+    printf("written %u count %u numbers %u; record", (unsigned)a->written, (unsigned)a->count, (unsigned)a->numbers);
     for (unsigned i = 0; i < RECORD; i++)
         printf(" %u", a->record[i]);
     printf("\n");
-    print_bytes("row or severities", out->room + out->start, out->len);
+    print_bytes("row, severities or book", out->room + out->start, out->len);
 }
 
 static void hold(const struct call *c, uint64_t status, const struct answer *a, uint64_t expected_status,
@@ -329,9 +376,10 @@ uint64_t run_both(const struct call *c, struct answer *a) {
     memcpy(before.record, c->record, c->record_len);
     memcpy(a, &before, sizeof before);
     memcpy(&expected, &before, sizeof before);
-    lend_out(c->function == STAGED_PLAN || c->function == LIST ? c->out_len : 0);
+    lend_lists(c);
+    lend_out(takes_out(c->function) ? c->out_len : 0);
     uint64_t status = run(&proved, c, book, sample, lent_out.room + lent_out.start, a);
-    if (!unchanged(&lent_book) || !unchanged(&lent_sample))
+    if (!unchanged(&lent_book) || !unchanged(&lent_sample) || !lists_unchanged(c))
         report("memory lent for reading, or a guard byte around it, was changed", c);
     uint64_t expected_status = run(&reference, c, book, sample, expected_out.room + expected_out.start, &expected);
     if (expected_status != 0 && (memcmp(&expected, &before, sizeof before) != 0 || !unchanged(&expected_out)))
@@ -339,6 +387,8 @@ uint64_t run_both(const struct call *c, struct answer *a) {
     hold(c, status, a, expected_status, &expected);
     if (c->function == LIST)
         hold_to_reading(c, status);
+    if (c->function == WRITE_BOOK)
+        hold_to_reader(c, status, a);
     count(c, status, a);
     return status;
 }
@@ -349,12 +399,14 @@ void report(const char *what, const struct call *c) {
     if (++differences > MOST_REPORTS)
         return;
     printf("DIFFERENCE, %s: %s\n", about[c->function].name, what);
-    printf("  size %u level %u column %u severity %u resubmitted %u event %u limit %d room %zu\n", (unsigned)c->size,
-           (unsigned)c->level, (unsigned)c->column, (unsigned)c->severity, (unsigned)c->resubmitted, (unsigned)c->event,
-           (int)c->limit, c->out_len);
+    printf("  size %u level %u column %u severity %u resubmitted %u event %u limit %d section %u nth %u room %zu\n",
+           (unsigned)c->size, (unsigned)c->level, (unsigned)c->column, (unsigned)c->severity, (unsigned)c->resubmitted,
+           (unsigned)c->event, (int)c->limit, (unsigned)c->section, (unsigned)c->nth, c->out_len);
     print_bytes("record", c->record, c->record_len);
     print_bytes("book", c->book, c->book_len);
     print_bytes("sample, readings or history", c->sample, c->sample_len);
+    for (unsigned i = 0; c->function == WRITE_BOOK && i < SECTIONS; i++)
+        print_bytes("rows", c->lists[i].bytes, c->lists[i].len);
     printf("  drawn from 0x%016llx (0: a fixed case)\n", (unsigned long long)draw_case_seed());
 }
 
@@ -403,6 +455,7 @@ static bool summary_of_fractions(void) {
 
 bool summary(void) {
     bool ok = summary_of_fractions();
+    ok = summary_of_books() && ok;
     unsigned long calls = 0;
     for (int f = 0; f < FUNCTIONS; f++) {
         ok = summary_of((enum function)f) && ok;

@@ -25,26 +25,39 @@ enum function {
     NEXT,
     LIST,
     CHECK_BOOK,
+    WRITE_BOOK,
+    COUNT_ENTRIES,
+    READ_ENTRY,
     SCREEN,
     FUNCTIONS
 };
 
-enum { BOOK_ROOM = 40000, SAMPLE_ROOM = 40000, RECORD_ROOM = 12, RECORD = 10, ROW = 42 };
+enum { BOOK_ROOM = 40000, SAMPLE_ROOM = 40000, LIST_ROOM = 64000, RECORD_ROOM = 12, RECORD = 10, ROW = 42 };
 
 /* The record's clean run, the letter and the column of its plan; and its bytes before them, that a history tells. */
 enum { CLEAN = 7, CLEAN_LETTER, CLEAN_COLUMN, TOLD = 7 };
 
+/* The sections of a book, and the entries of one as a list of rows. */
+enum { SECTIONS = 4 };
+
+struct list {
+    size_t len;
+    uint8_t bytes[LIST_ROOM];
+};
+
 /*
  * Everything that a function could be passed; each takes what it has a parameter for. Readings and histories are lent
- * as the sample. The bytes lent for a row of stages, or for severities, are out_len, at most SAMPLE_ROOM.
+ * as the sample. The bytes lent for a row of stages or of an entry, for severities, or for a book, are out_len, at most
+ * SAMPLE_ROOM.
  */
 struct call {
     enum function function;
-    uint32_t size, level, column, severity, resubmitted, event;
+    uint32_t size, level, column, severity, resubmitted, event, section, nth;
     int32_t limit;
     unsigned items_with_points; /* after how many the book's staged plan still adds 3, for a supply; passed to none */
     size_t book_len, sample_len, record_len, out_len;
     uint8_t book[BOOK_ROOM], sample[SAMPLE_ROOM], record[RECORD_ROOM];
+    struct list lists[SECTIONS];
 };
 
 /* Everything that a function could write, with guard bytes around each. There is no padding. */
@@ -56,8 +69,9 @@ struct answer {
     uint64_t guard_2;
     uint16_t n, guard_3[3], ac, guard_4[3], used, guard_5[3], ha, guard_6[3], hr, guard_7[3], g, guard_8[3];
     uint16_t nt, guard_9[3], at, guard_10[3], k, guard_11[3];
-    uint8_t letter, guard_12[7], stages, guard_13[7], accepted, guard_14[7], both, guard_15[7], byte, guard_16[15];
-    uint8_t share, guard_17[7], record[RECORD_ROOM], guard_18[20];
+    uint32_t written, guard_12, count, guard_13, numbers, guard_14;
+    uint8_t letter, guard_15[7], stages, guard_16[7], accepted, guard_17[7], both, guard_18[7], byte, guard_19[15];
+    uint8_t share, guard_20[7], record[RECORD_ROOM], guard_21[20];
 };
 
 /* A lot with an empty book and no sample yet. */

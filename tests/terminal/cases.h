@@ -19,6 +19,15 @@ void every_fraction(void);
 /* T-02: every stage of every number of stages, accepted there and not, by every record but stopped and clean runs. */
 void every_stage(void);
 
+/* T-03: rows and books written out, the positions of bad entries, and books at the longest length. */
+void writing_cases(void);
+
+/* T-03: every number of a row at its edges, every order of keys, every cut, every room, every mixture of refusals. */
+void every_entry(void);
+
+/* T-03: drawn books read as rows and written again, and drawn rows written and read back. */
+void round_trips(void);
+
 /* Every mixture of what a lot can be refused for, in each function that takes one. */
 void refusal_cases(void);
 

@@ -9,7 +9,7 @@
 #include <stdio.h>
 #include <stdlib.h>
 
-enum { CASES = 1200000, SUPPLIES = 12, SUPPLY_EVENTS = 3000 };
+enum { CASES = 1320000, SUPPLIES = 12, SUPPLY_EVENTS = 3000 };
 
 int main(int argc, char **argv) {
     static struct call call;
@@ -28,6 +28,9 @@ int main(int argc, char **argv) {
     fraction_cases();
     every_fraction();
     every_stage();
+    writing_cases();
+    every_entry();
+    round_trips();
     refusal_cases();
     history_cases();
     ok = summary() && ok;

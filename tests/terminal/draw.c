@@ -2,7 +2,9 @@
 #include "draw.h"
 
 #include "book.h"
+#include "packed.h"
 #include "reference.h"
+#include "rows.h"
 
 #include <string.h>
 
@@ -367,14 +369,51 @@ static void draw_history(struct call *c) {
     }
 }
 
+/* ---- entries */
+
+/* A section, and the place of an entry in it, or beside its last; at times any numbers. */
+static void draw_place(struct call *c) {
+    uint32_t count = 0;
+    c->section = one_in(12) ? any_number() : one_in(12) ? SECTIONS : below(SECTIONS);
+    ref_count_entries(c->book, c->book_len, c->section, &count);
+    c->nth = one_in(12) ? any_number() : one_in(4) ? count + below(2) : count > 0 ? below(count) : 0;
+}
+
+static void draw_entries(struct call *c) {
+    if (c->function == COUNT_ENTRIES || c->function == READ_ENTRY)
+        draw_place(c);
+    if (c->function != WRITE_BOOK)
+        return;
+    draw_rows(c);
+    if (one_in(2))
+        damage_rows(c);
+}
+
+/* ---- room */
+
+/* How many bytes the call's function writes where it is answered; the book of rows that are too many is cut. */
+static size_t bytes_written(const struct call *c) {
+    static struct packed packed;
+    if (c->function == LIST)
+        return c->sample_len;
+    if (c->function == READ_ENTRY)
+        return 2 * row_numbers[c->section < SECTIONS ? c->section : below(SECTIONS)];
+    if (c->function != WRITE_BOOK)
+        return ROW;
+    pack_rows(c, &packed);
+    return packed.len < SAMPLE_ROOM - 20 ? packed.len : SAMPLE_ROOM - 20;
+}
+
 /* A buffer for as many bytes as are written, or for fewer, or for more. */
 static void draw_room(struct call *c) {
-    size_t written = c->function == LIST ? c->sample_len : ROW;
+    size_t written = bytes_written(c);
     c->out_len = written;
     if (one_in(4))
         c->out_len += below(20);
     else if (one_in(4))
         c->out_len -= written > 0 && one_in(2) ? 1 : below((uint32_t)written + 1);
+    if (one_in(100))
+        c->out_len = 0;
 }
 
 /* ---- a case */
@@ -384,8 +423,9 @@ static enum function draw_function(void) {
         [LETTER] = 1,         [PLAN] = 7,       [FRACTIONAL_PLAN] = 4, [STAGED_PLAN] = 5,  [SEQUENTIAL_PLAN] = 3,
         [VARIABLES_PLAN] = 3, [SINGLE] = 8,     [STAGED] = 11,         [SEQUENTIAL] = 10,  [UPPER] = 6,
         [LOWER] = 6,          [FRACTIONAL] = 5, [CLOSE_SINGLE] = 8,    [CLOSE_STAGED] = 7, [CLOSE_FRACTIONAL] = 6,
-        [NEXT] = 4,           [LIST] = 1,       [CHECK_BOOK] = 4,      [SCREEN] = 1};
-    unsigned at = below(100), f = 0;
+        [NEXT] = 4,           [LIST] = 1,       [CHECK_BOOK] = 4,      [WRITE_BOOK] = 6,   [COUNT_ENTRIES] = 1,
+        [READ_ENTRY] = 3,     [SCREEN] = 1};
+    unsigned at = below(110), f = 0;
     for (; at >= often[f]; f++)
         at -= often[f];
     return (enum function)f;
@@ -416,6 +456,7 @@ void draw_case(struct call *c) {
         draw_history(c);
     else
         draw_sample(c, &plans);
+    draw_entries(c);
     draw_room(c);
     if (one_in(c->function == CHECK_BOOK ? 2 : 10))
         damage_book(c);

@@ -1,6 +1,6 @@
 /*
  * A plain reading of document 01, section by section, with the record kept from lot to lot, and of document 02: the
- * fractions of T-01 and the score of T-02. See reference.h.
+ * fractions of T-01, the score of T-02 and the written book of T-03. See reference.h.
  */
 #include "reference.h"
 
@@ -1020,4 +1020,150 @@ uint32_t ref_check_book(const uint8_t *book, size_t book_len) {
     struct book opened;
     size_t fault = open_book(&opened, book, book_len);
     return fault == SOUND ? 0 : refuse(12, fault);
+}
+
+/* ---- the entries: a book as rows. A row has its entry's numbers; a staged one has seven sizes, seven Ac, seven Re. */
+
+enum { SIZES = 8, ACS = SIZES + 2 * MOST_STAGES, RES = ACS + 2 * MOST_STAGES, STAGED_ROW = RES + 2 * MOST_STAGES };
+
+static const uint8_t row_bytes[SECTIONS] = {8, STAGED_ROW, 16, 10};
+
+struct rows {
+    const uint8_t *bytes;
+    size_t len;
+};
+
+/* How long the entry is in a book. Up to its number of stages an entry and its row are alike. */
+static size_t entry_bytes(const uint8_t *bytes, unsigned section, size_t at) {
+    size_t key = 2 * (size_t)kinds[section].keys;
+    return key + body_bytes(bytes, section, at + key);
+}
+
+/* Whether Ac and Re can stand after those of the stage before (Ac MARK and Re 0 before the first). */
+static bool stage_holds(unsigned ac, unsigned re, const unsigned before[2], bool last) {
+    if (re < before[1] || re > 65534)
+        return false;
+    if (ac == MARK)
+        return before[0] == MARK && !last;
+    if (before[0] != MARK && ac < before[0])
+        return false;
+    return last ? re == ac + 1 : re > ac;
+}
+
+static bool stages_hold(const uint8_t *row) {
+    unsigned stages = number_at(row, SIZES - 2), before[2] = {MARK, 0};
+    if (stages < 2 || stages > MOST_STAGES)
+        return false;
+    for (unsigned i = 0; i < stages; i++) {
+        unsigned size = number_at(row, SIZES + 2 * i);
+        unsigned ac = number_at(row, ACS + 2 * i), re = number_at(row, RES + 2 * i);
+        if (size < 1 || size > 2000 || !stage_holds(ac, re, before, i + 1 == stages))
+            return false;
+        before[0] = ac;
+        before[1] = re;
+    }
+    return true;
+}
+
+/* Whether a book can hold the row that is whole at a place in its list. */
+static bool row_holds(const uint8_t *rows, unsigned section, size_t at) {
+    struct stretch s = {rows, at + row_bytes[section], at};
+    if (check_key(&s, &kinds[section], at > 0 ? at - row_bytes[section] : SOUND) != SOUND)
+        return false;
+    return section == STAGED ? stages_hold(rows + at) : kinds[section].check_body(&s) == SOUND;
+}
+
+/* How many rows of the list come before the first bad one, and how long they are in a book. */
+static size_t count_rows(const struct rows *list, unsigned section, size_t *len) {
+    size_t at = 0;
+    while (list->len - at >= row_bytes[section] && row_holds(list->bytes, section, at)) {
+        *len += entry_bytes(list->bytes, section, at);
+        at += row_bytes[section];
+    }
+    return at / row_bytes[section];
+}
+
+/* In a book Ac and Re stand stage by stage, and there are no places past the last. */
+static uint8_t *write_staged(const uint8_t *row, uint8_t *out) {
+    unsigned stages = number_at(row, SIZES - 2);
+    memcpy(out, row, SIZES + 2 * stages);
+    out += SIZES + 2 * stages;
+    for (unsigned i = 0; i < stages; i++, out += 4) {
+        memcpy(out, row + ACS + 2 * i, 2);
+        memcpy(out + 2, row + RES + 2 * i, 2);
+    }
+    return out;
+}
+
+/* Every other row is its entry, so that their list is the section but for the count. */
+static uint8_t *write_section(const struct rows *list, unsigned section, uint8_t *out) {
+    put_number(out, 0, (unsigned)(list->len / row_bytes[section]));
+    out += 2;
+    if (section != STAGED) {
+        memcpy(out, list->bytes, list->len);
+        return out + list->len;
+    }
+    for (size_t at = 0; at < list->len; at += STAGED_ROW)
+        out = write_staged(list->bytes + at, out);
+    return out;
+}
+
+uint32_t ref_write_book(const uint8_t *reduced, size_t reduced_len, const uint8_t *staged, size_t staged_len,
+                        const uint8_t *sequential, size_t sequential_len, const uint8_t *variables,
+                        size_t variables_len, uint8_t *out, size_t out_len, uint32_t *written) {
+    const struct rows lists[SECTIONS] = {
+        {reduced, reduced_len}, {staged, staged_len}, {sequential, sequential_len}, {variables, variables_len}};
+    size_t position = 0, len = 2 * SECTIONS;
+    for (unsigned i = 0; i < SECTIONS; i++) {
+        size_t rows = count_rows(&lists[i], i, &len);
+        position += rows;
+        if (rows * row_bytes[i] < lists[i].len)
+            return refuse(12, position);
+    }
+    if (len > out_len || len > MOST_BOOK)
+        return 11;
+    for (unsigned i = 0; i < SECTIONS; i++)
+        out = write_section(&lists[i], i, out);
+    *written = (uint32_t)len;
+    return 0;
+}
+
+uint32_t ref_count_entries(const uint8_t *book, size_t book_len, uint32_t section, uint32_t *count) {
+    struct book opened;
+    size_t fault = open_book(&opened, book, book_len);
+    if (fault != SOUND)
+        return refuse(12, fault);
+    *count = section < SECTIONS ? number_at(book, opened.section[section]) : 0;
+    return 0;
+}
+
+static void show_staged(const uint8_t *entry, uint8_t *row) {
+    unsigned stages = number_at(entry, SIZES - 2);
+    const uint8_t *numbers = entry + SIZES + 2 * stages;
+    memset(row, 0, STAGED_ROW);
+    memcpy(row, entry, SIZES + 2 * stages);
+    for (unsigned i = 0; i < stages; i++) {
+        memcpy(row + ACS + 2 * i, numbers + 4 * i, 2);
+        memcpy(row + RES + 2 * i, numbers + 4 * i + 2, 2);
+    }
+}
+
+uint32_t ref_read_entry(const uint8_t *book, size_t book_len, uint32_t section, uint32_t nth, uint8_t *row,
+                        size_t row_len, uint32_t *numbers) {
+    struct book opened;
+    size_t fault = open_book(&opened, book, book_len), at;
+    if (fault != SOUND)
+        return refuse(12, fault);
+    if (section >= SECTIONS || nth >= number_at(book, opened.section[section]))
+        return 6;
+    if (row_len < row_bytes[section])
+        return 11;
+    for (at = opened.section[section] + 2; nth > 0; nth--)
+        at += entry_bytes(book, section, at);
+    if (section == STAGED)
+        show_staged(book + at, row);
+    else
+        memcpy(row, book + at, row_bytes[section]);
+    *numbers = row_bytes[section] / 2;
+    return 0;
 }

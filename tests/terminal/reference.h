@@ -1,5 +1,5 @@
 /*
- * A plain reading of document 01, and of T-01 and T-02 of document 02, in C, written from the documents alone. A ref_
+ * A plain reading of document 01, and of T-01 to T-03 of document 02, in C, written from the documents alone. A ref_
  * function answers as the hm_ function of the same name in hipomoake.h must. The last ones have none: lotlog's closing,
  * and the written reading of a history.
  */
@@ -48,6 +48,12 @@ uint32_t ref_close_fractional(uint8_t *record, size_t record_len, uint32_t resub
 uint32_t ref_next(uint8_t *record, size_t record_len, uint32_t event);
 uint64_t ref_list(const uint8_t *history, size_t len, uint8_t *severities, size_t room);
 uint32_t ref_check_book(const uint8_t *book, size_t book_len);
+uint32_t ref_write_book(const uint8_t *reduced, size_t reduced_len, const uint8_t *staged, size_t staged_len,
+                        const uint8_t *sequential, size_t sequential_len, const uint8_t *variables,
+                        size_t variables_len, uint8_t *out, size_t out_len, uint32_t *written);
+uint32_t ref_count_entries(const uint8_t *book, size_t book_len, uint32_t section, uint32_t *count);
+uint32_t ref_read_entry(const uint8_t *book, size_t book_len, uint32_t section, uint32_t nth, uint8_t *row,
+                        size_t row_len, uint32_t *numbers);
 uint32_t ref_screen(const uint8_t *readings, size_t readings_len, double *mean, double *variance, uint8_t *both);
 
 /*

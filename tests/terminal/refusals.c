@@ -126,8 +126,9 @@ static void every_lot(unsigned book) {
             }
 }
 
+/* The functions before NEXT do, and no others. */
 static bool takes_lot(enum function f) {
-    return f != NEXT && f != LIST && f != CHECK_BOOK && f != SCREEN;
+    return f < NEXT;
 }
 
 static void every_function(unsigned book, unsigned record) {

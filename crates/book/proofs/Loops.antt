@@ -3,7 +3,7 @@
 use Prim.Native.Nat.{ℕ, zero, suc, _+_, _-_, _*_, _≤_, _<_}
 use mathlib.Core.Path.{_≡_, refl, ap, sym, _∙_}
 use mathlib.Core.Bool.{Bool, true, false, cond, true≢false}
-use mathlib.Core.List.{List, [], _∷_}
+use mathlib.Core.List.{List, []}
 use native.Mathlib.Omega.{arith}
 use borrow.Author.Tests.{eq-eqb, ne-eqb, lt-ltb, le-ltb}
 use lib.ListN.{length, getD, take, drop, length-drop, length-take, drop-of-length-le}
@@ -12,7 +12,7 @@ use Rattle.rules.specs.Numbers.{numbersOf}
 use Rattle.rules.specs.Book.{Walk, ends, broken, short, Kind, kinds, kindAt, variables, keyOf, keyFor, sameKey, sizeOf}
 use Rattle.rules.specs.Book.{shift, section, sections, entry}
 use Rattle.rules.proofs.Bounded.{by-le}
-use Rattle.rules.proofs.Numbers.{numbers-drop}
+use Rattle.rules.proofs.Numbers.{numbers-drop, numbers-take}
 use Rattle.rules.proofs.Walks.{shift-zero, entry-ends, place, place-ends, place-broken, place-section}
 use Rattle.rules.proofs.Steps.{same-short, section-is, entries-done, entries-broken, entries-short, entries-next}
 use Rattle.rules.proofs.Steps.{sections-done, sections-broken, sections-short, sections-next}
@@ -23,14 +23,6 @@ use Rattle.book.specs.Places.{orElse, underFrom, sectionPlace, onward, a
 use Rattle.book.specs.Paper.{keyBetween, stretchPaper, seenOf, ReadTo, InSection, InBook}
 use Rattle.book.specs.declared.Stretch.{Stretch}
 use Rattle.book.specs.declared.Stretch.the-variants.{Ends, Broken, Short}
-
-numbers-take : (b : List ℕ) (n : ℕ) → numbersOf (take (2 * n) b) ≡ take n (numbersOf b)
-unfolding numbersOf
-numbers-take b zero = refl
-numbers-take [] (suc n) = ap numbersOf (take-nil (2 * suc n))
-numbers-take (a ∷ []) (suc n) =
-    let z : 2 * suc n ≡ suc (suc (2 * n)) = omega arith in rw (z, take-nil (suc (2 * n)))
-numbers-take (a ∷ b ∷ r) (suc n) = let z : 2 * suc n ≡ suc (suc (2 * n)) = omega arith in rw (z, numbers-take r n)
 
 -- the numbers of the part of a slice from one place up to another
 pub numbers-between : (b : List ℕ) (from to : ℕ)

@@ -14,11 +14,11 @@ use entry::Key;
 use entry::Walk;
 
 // Refusals.
-const NO_PLAN: u8 = 6;
+pub const NO_PLAN: u8 = 6;
 
-const BROKEN_BOOK: u8 = 12;
+pub const BROKEN_BOOK: u8 = 12;
 
-const LARGEST_BOOK: usize = 32768;
+pub const LARGEST_BOOK: usize = 32768;
 
 // The entry at a place of a section, after the one that stands from prev up to it; the first has none before it.
 fn entry_at(kind: usize, part: &[u8], prev: usize, at: usize) -> Walk

@@ -1,5 +1,6 @@
 // Every case of document 01's 'Worked at the edges' run through the public entries, each printed with its answer, and
-// cases of document 02, T-01 and T-02. (lotlog's listing is run by the program lotlog.)
+// cases of document 02, T-01 to T-03. (lotlog's listing is run by the program lotlog.)
+mod books;
 mod fractions;
 mod stages;
 
@@ -415,4 +416,5 @@ fn main() {
     histories();
     fractions::all();
     stages::all();
+    books::all();
 }

@@ -3,7 +3,7 @@ ghost use mathlib.Core.Path.{_≡_};
 ghost use Prim.Native.Nat.{_≤_, _<_};
 ghost use lib.ListN.{length};
 ghost use Rattle.rules.specs.Numbers.{numbersOf};
-ghost use Rattle.rules.specs.Book.{kindAt, right, keyOf, keyFalls, sameKey, couldHold, every, seven};
+ghost use Rattle.rules.specs.Book.{kindAt, sizeOf, right, keyOf, keyFalls, sameKey, couldHold, every, seven};
 ghost use Rattle.rules.specs.Book as paper;
 ghost use Rattle.rules.specs.Book.{reducedSingles, staged, sequential, variables, reducedOf, sequentialOf, variablesOf};
 ghost use Rattle.rules.specs.Layout.{entryOf};
@@ -69,14 +69,14 @@ pub enum Walk {
 }
 
 // How many numbers a key has.
-fn key_len(kind: usize) -> usize
+pub fn key_len(kind: usize) -> usize
     ensures { λ r. ⌜ (r ≡ kindAt kind .key) × (r ≤ 3) ⌝ }
 {
     if kind == REDUCED { 2 } else { 3 }
 }
 
 // How many numbers an entry has, by the number after its key.
-fn entry_size(kind: usize, after: u16) -> usize
+pub fn entry_size(kind: usize, after: u16) -> usize
     ensures { λ r. ⌜ (r ≡ kindAt kind .size after) × (r < 200000) ⌝ }
 {
     match kind {
@@ -85,6 +85,14 @@ fn entry_size(kind: usize, after: u16) -> usize
         SEQUENTIAL => 8,
         _ => 5,
     }
+}
+
+// How many numbers the entry that e begins with has.
+pub fn size_at(kind: usize, e: &[u8]) -> usize
+    ensures { λ r. ⌜ (r ≡ sizeOf (kindAt kind) (numbersOf (now (e .entry)))) × (r < 200000) ⌝ }
+{
+    let after = keeping::number16(e, key_len(kind));
+    entry_size(kind, after)
 }
 
 // Is the number at place i of the entry right?
@@ -100,7 +108,7 @@ fn right_at(kind: usize, e: &[u8], i: usize) -> bool
 }
 
 // The numbers of the entry that the stretch begins with: the first that is missing or not right, or the entry's end.
-fn entry_numbers(kind: usize, e: &[u8]) -> Walk
+pub fn entry_numbers(kind: usize, e: &[u8]) -> Walk
     ensures { λ r. ⌜ walkPaper r ≡ entryRead kind (numbersOf (now (e .entry))) ⌝ }
 {
     let after = keeping::number16(e, key_len(kind));
@@ -146,7 +154,7 @@ fn rises_after(kind: usize, before: &[u8], e: &[u8]) -> bool
 }
 
 // Is the whole key of the entry there, and does it not rise over that of the entry before it?
-fn key_falls(kind: usize, before: &[u8], e: &[u8]) -> bool
+pub fn key_falls(kind: usize, before: &[u8], e: &[u8]) -> bool
     ensures { λ r. ⌜ r
         ≡ keyFalls (kindAt kind) (keyOf (kindAt kind) (numbersOf (now (before .entry))))
         (numbersOf (now (e .entry))) ⌝ }

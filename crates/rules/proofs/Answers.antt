@@ -20,6 +20,12 @@ pub then-given : {A B : Type 0} (a : Answer A) (next : A → Answer B) (b : B) �
 then-given (refused n p) next b e = absurd (refused-given e)
 then-given (given x) next b e = (x, refl, e)
 
+-- what is always given after it is refused only where it is
+pub refused-then : {A B : Type 0} (a : Answer A) (f : A → B) (n p : ℕ) → andThen a (λ x. given (f x)) ≡ refused n p
+    → a ≡ refused n p
+refused-then (refused m q) f n p e = cc
+refused-then (given x) f n p e = absurd (refused-given (sym e))
+
 -- what goes on alike ends alike
 pub then-alike : {A B : Type 0} {next later : A → Answer B} (a : Answer A) → ((x : A) → next x ≡ later x)
     → andThen a next ≡ andThen a later

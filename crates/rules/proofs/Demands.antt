@@ -4,3 +4,4 @@ pub mod Fractional
 pub mod Three
 pub mod Two
 pub mod TypedBooks
+pub mod Writing

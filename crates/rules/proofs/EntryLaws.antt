@@ -10,7 +10,7 @@ use native.Mathlib.Nat.{le-refl}
 use native.Mathlib.Omega.{arith}
 use borrow.Author.Tests.{ltb-true, ltb-false, lt-ltb, le-ltb, eqb-true, eq-eqb, ne-eqb, not-true, not-false, lt-leb}
 use lib.Dec.{ltb, eqb}
-use Rattle.rules.specs.Refusals.{Answer, given, _gives_, firstOf, andThen, noPlan, unknownForm}
+use Rattle.rules.specs.Refusals.{Answer, refused, given, _gives_, firstOf, andThen, noPlan, unknownForm}
 use Rattle.rules.specs.Verdict.{Verdict}
 use Rattle.rules.specs.Severity.{Lot, Origin, Event, lot, resubmitted, Record, step, onLot, onResubmitted}
 use Rattle.rules.specs.Supply.{Supply, lotOn, countsOn, move, supplyInRange}
@@ -62,6 +62,21 @@ pub sound-given : {A : Type 0} (c : Checked) (a : Answer A) (x : A)
     → (onSound c a ≡ given x) ↔ ((c ≡ sound) × (a ≡ given x))
 sound-given sound a x = (λ e. (refl, e), λ h. h .1)
 sound-given (brokenAt byte) a x = (λ e. absurd (refused-given e), λ h. broken-unsound (h .0))
+
+-- a book that is broken refuses before anything else, and a sound one lets it stand
+pub broken-first : {A : Type 0} (c : Checked) (m q : ℕ) (a : Answer A)
+    → _≡_ {A = Answer (Unit {0})} (refused m q) (onSound c (given tt)) → refused m q ≡ onSound c a
+broken-first sound m q a e = absurd (refused-given e)
+broken-first (brokenAt byte) m q a e = cc
+
+pub sound-first : {A : Type 0} (c : Checked) (a : Answer A)
+    → _≡_ {A = Answer (Unit {0})} (given tt) (onSound c (given tt)) → a ≡ onSound c a
+sound-first sound a e = refl
+sound-first (brokenAt byte) a e = absurd (refused-given (sym e))
+
+pub is-sound : (c : Checked) → _≡_ {A = Answer (Unit {0})} (given tt) (onSound c (given tt)) → c ≡ sound
+is-sound sound e = refl
+is-sound (brokenAt byte) e = absurd (refused-given (sym e))
 
 found-something : {e : List ℕ} → found e ≡ nothing → ⊥
 found-something e = let z : _≡_ {A = ℕ} 0 1 = cc in omega arith

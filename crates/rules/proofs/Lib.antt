@@ -1,6 +1,7 @@
 pub mod Agreement
 pub mod Answers
 pub mod Append
+pub mod BadEntries
 pub mod Bools
 pub mod Bounded
 pub mod Bytes
@@ -15,6 +16,7 @@ pub mod EntryLaws
 pub mod EventLaws
 pub mod Faults
 pub mod Feeding
+pub mod FewKeys
 pub mod FractionRuns
 pub mod Fractions
 pub mod GivenPlans
@@ -24,6 +26,7 @@ pub mod Histories
 pub mod Items
 pub mod Landing
 pub mod Leaving
+pub mod LentRows
 pub mod LineForms
 pub mod LogRuns
 pub mod LookUp
@@ -38,6 +41,8 @@ pub mod Readings
 pub mod Refusals
 pub mod Relisted
 pub mod Resubmitted
+pub mod RowLaws
+pub mod RowReadings
 pub mod Runs
 pub mod SMethod
 pub mod SampleLaws
@@ -58,3 +63,5 @@ pub mod Window
 pub mod Worked
 pub mod WorkedBooks
 pub mod WorkedFractions
+pub mod WorkedRows
+pub mod Written

@@ -44,13 +44,13 @@ module _ (k : Kind) (e : List ℕ) where
       go short h t = absurd (true≢false (sym h))
 
 -- what two walks that end have in between
-record Ended (w : Walk) (f : ℕ → Walk) : Type 0 where
-  first : ℕ
-  ends-first : w ≡ ends first
-  second : ℕ
-  ends-second : f first ≡ ends second
+pub record Ended (w : Walk) (f : ℕ → Walk) : Type 0 where
+  pub first : ℕ
+  pub ends-first : w ≡ ends first
+  pub second : ℕ
+  pub ends-second : f first ≡ ends second
 
-then-ended : (w : Walk) (f : ℕ → Walk) (p : ℕ) → thenFrom w f ≡ ends p → Ended w f
+pub then-ended : (w : Walk) (f : ℕ → Walk) (p : ℕ) → thenFrom w f ≡ ends p → Ended w f
 unfolding thenFrom shift
 then-ended (ends s) f p e = go (f s) refl e
   where
@@ -82,7 +82,7 @@ record Section (ks : List Kind) (ws : List ℕ) (j : ℕ) : Type 0 where
   end : ℕ
   stops : section (getD ks j variables) (drop (sectionAt ks j ws) ws) ≡ ends end
 
-section-ends : (k : Kind) → Deep k → (ws : List ℕ) (p : ℕ) → section k ws ≡ ends p → p ≡ sectionSize k ws
+pub section-ends : (k : Kind) → Deep k → (ws : List ℕ) (p : ℕ) → section k ws ≡ ends p → p ≡ sectionSize k ws
 section-ends k deep ws p e =
     let t : Tells _ (sectionSize k ws) (length ws) (ends p) = rw e at (section-tells k deep ws) in t .0
 
@@ -146,7 +146,7 @@ unfolding rises
 rises-self [] = refl
 rises-self (a ∷ xs) = rw (le-ltb a a (omega arith), rises-self xs)
 
-rises-cases : {P : Type 0} (x y : ℕ) (a b : List ℕ) → rises (x ∷ a) (y ∷ b) ≡ true → (x < y → P)
+pub rises-cases : {P : Type 0} (x y : ℕ) (a b : List ℕ) → rises (x ∷ a) (y ∷ b) ≡ true → (x < y → P)
     → (x ≡ y → rises a b ≡ true → P) → P
 unfolding rises
 rises-cases {P} x y a b h f g = go (ltb x y) (ltb y x) refl refl h
@@ -184,7 +184,7 @@ module _ (k : Kind) (deep : Deep k) (before ws : List ℕ) (s : ℕ) (e : entry 
   key-whole : k .key < sizeOf k ws
   key-whole = deep .1 (getD ws (k .key) 0)
 
-  key-rises : rises before (keyOf k ws) ≡ true
+  pub key-rises : rises before (keyOf k ws) ≡ true
   key-rises =
       true-unless (rises before (keyOf k ws))
       (λ f. entry-told .1 0 (keyStays refl (omega (arith, entry-told .0, key-whole)) f))
@@ -309,7 +309,7 @@ module _ (bytes : List ℕ) (good : checkBook bytes ≡ sound) (j : ℕ) (within
   unfolding lookUp seekIn
   look-up-is severity letter column = rw (at-section .starts)
 
-  entry-ending : (i : ℕ) → i < getD start 0 0
+  pub entry-ending : (i : ℕ) → i < getD start 0 0
       → entry k (keyBefore k [] i (drop 1 start)) (drop (entryAt k i (drop 1 start)) (drop 1 start))
       ≡ ends (sizeOf k (drop (entryAt k i (drop 1 start)) (drop 1 start)))
   entry-ending = entries-at k (getD start 0 0) [] (drop 1 start) (entries-end .end) (entries-end .is)

@@ -2,12 +2,12 @@
 -- Assumes nothing.
 use Prim.Native.Nat.{ℕ, zero, suc, _+_, _-_, _*_, _/_, _%_, _≤_, _<_}
 use mathlib.Core.Path.{_≡_, refl, ap, _∙_}
-use mathlib.Core.List.{List, [], _∷_}
+use mathlib.Core.List.{List, [], _∷_, _++_}
 use native.Mathlib.Omega.{arith}
 use borrow.Author.Tests.{lt-ltb, le-ltb}
 use lib.IntN.{pos, _+ℤ_}
 use lib.ListN.{length, getD, drop, take, length-drop, drop-of-length-le}
-use lib.Seq.{take-all, drop-cons}
+use lib.Seq.{take-all, take-nil, drop-cons}
 use Rattle.rules.specs.Numbers.{numbersOf, numberBytes, signedOf}
 
 pub numbers-low : (b : List ℕ) → 2 * length (numbersOf b) ≤ length b
@@ -45,6 +45,14 @@ numbers-drop b zero = refl
 numbers-drop [] (suc i) = rw twice-suc
 numbers-drop (a ∷ []) (suc i) = rw twice-suc
 numbers-drop (a ∷ b ∷ r) (suc i) = rw twice-suc (numbers-drop r i)
+
+pub numbers-take : (b : List ℕ) (n : ℕ) → numbersOf (take (2 * n) b) ≡ take n (numbersOf b)
+unfolding numbersOf
+numbers-take b zero = refl
+numbers-take [] (suc n) = ap numbersOf (take-nil (2 * suc n))
+numbers-take (a ∷ []) (suc n) =
+    let z : 2 * suc n ≡ suc (suc (2 * n)) = twice-suc n in rw (z, take-nil (suc (2 * n)))
+numbers-take (a ∷ b ∷ r) (suc n) = let z : 2 * suc n ≡ suc (suc (2 * n)) = twice-suc n in rw (z, numbers-take r n)
 
 -- of the part of a slice from a place to its end
 pub numbers-part : (b : List ℕ) (i : ℕ) → numbersOf (take (length b - 2 * i) (drop (2 * i) b)) ≡ drop i (numbersOf b)
@@ -87,3 +95,19 @@ pub numbers-back : (xs : List ℕ) → numbersOf (numberBytes xs) ≡ xs
 unfolding numberBytes numbersOf
 numbers-back [] = refl
 numbers-back (x ∷ xs) = let e : x % 256 + 256 * (x / 256) ≡ x = omega arith in rw (e, numbers-back xs)
+
+pub bytes-append : (xs ys : List ℕ) → numberBytes (xs ++ ys) ≡ numberBytes xs ++ numberBytes ys
+unfolding numberBytes
+bytes-append [] ys = refl
+bytes-append (x ∷ xs) ys = rw (bytes-append xs ys)
+
+-- numbers that were read from whole pairs of bytes are those bytes
+pub bytes-back : (b : List ℕ) → length b ≡ 2 * length (numbersOf b) → ((i : ℕ) → getD b i 0 < 256)
+    → numberBytes (numbersOf b) ≡ b
+unfolding numbersOf numberBytes
+bytes-back [] e small = refl
+bytes-back (a ∷ []) e small = absurd (omega arith)
+bytes-back (a ∷ c ∷ r) e small =
+    let low : (a + 256 * c) % 256 ≡ a = omega (arith, small 0) in
+    let high : (a + 256 * c) / 256 ≡ c = omega (arith, small 0) in
+    rw (low, high, bytes-back r (omega arith) (λ i. small (suc (suc i))))

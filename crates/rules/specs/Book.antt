@@ -55,6 +55,11 @@ pub record Kind : Type 0 where
   pub ranges : List Range
   -- does a number keep the rules that it has with the entry's numbers before it?
   pub rule : List ℕ → ℕ → Bool
+  -- document 02, T-03: how many numbers a row has, in which an entry is handed over and shown
+  pub width : ℕ
+  -- .. and where in its row the entry's number at a place stands, by the number after its key; the key and that number
+  -- stand in a row as in an entry
+  pub inRow : ℕ → ℕ → ℕ
 
 -- is the number at place i of the entry within its range, and does it keep its rules?
 unfoldable pub right : Kind → List ℕ → ℕ → Bool
@@ -104,6 +109,10 @@ sections (k ∷ ks) ws = thenFrom (section k ws) (λ p. sections ks (drop p ws))
 abbrev pub noRule : List ℕ → ℕ → Bool
 noRule before x = true
 
+-- a row that has the entry's numbers as they stand
+abbrev pub asItStands : ℕ → ℕ → ℕ
+asItStands after i = i
+
 abbrev pub severityRange : Range
 severityRange = 0 to 2
 
@@ -120,7 +129,14 @@ itemColumn = 0 to 15
 -- "1. reduced singles: letter 0 to 15, column, n 1 to 3,150, Ac up to 65,534"
 abbrev pub reducedSingles : Kind
 reducedSingles =
-    record { key = 2; size = λ n. 4; ranges = letterRange ∷ anyColumn ∷ (1 to 3150) ∷ (0 to 65534) ∷ []; rule = noRule }
+    record {
+      key = 2;
+      size = λ n. 4;
+      ranges = letterRange ∷ anyColumn ∷ (1 to 3150) ∷ (0 to 65534) ∷ [];
+      rule = noRule;
+      width = 4;
+      inRow = asItStands;
+    }
 
 -- Ac at a stage, after the Ac before it: it does not fall; a mark "stands only before numbers, and is out of range at
 -- the last stage"
@@ -149,6 +165,13 @@ stagedRule before x =
     (stagedNumber (length before) (getD before 3 0)
     (getD before (length before - 2) 0) (getD before (length before - 1) 0) x)
 
+-- a staged row has severity, letter, column and stages, and then seven sizes, seven Ac and seven Re; in the entry of m
+-- stages Ac and Re stand by turns
+unfoldable pub stagedInRow : ℕ → ℕ → ℕ
+stagedInRow m i =
+    cond (ltb i (4 + m)) i
+    (cond (eqb ((i - (4 + m)) % 2) 0) (11 + (i - (4 + m)) / 2) (18 + (i - (4 + m)) / 2))
+
 -- "2. staged: severity 0 to 2, letter 0 to 15, column, stages, sizes .., then Ac and Re per stage"
 abbrev pub staged : Kind
 staged =
@@ -157,6 +180,8 @@ staged =
       size = λ m. 4 + 3 * m;
       ranges = severityRange ∷ letterRange ∷ anyColumn ∷ (2 to 7) ∷ [];
       rule = stagedRule;
+      width = 25;
+      inRow = stagedInRow;
     }
 
 -- "At with floor(g·nt − hA) ≤ At < ceiling(g·nt + hR)", in hundred-thousandths; a floor below 0 asks nothing of At
@@ -175,6 +200,8 @@ sequential =
       size = λ n. 8;
       ranges = severityRange ∷ letterRange ∷ itemColumn ∷ (1 to 65535) ∷ (1 to 65535) ∷ (1 to 60000) ∷ (1 to 3150) ∷ [];
       rule = sequentialRule;
+      width = 8;
+      inRow = asItStands;
     }
 
 -- "4. variables: severity 0 to 2, letter 0 to 15, column, n, K", with n 2 to 50 and K 1 to 4,000
@@ -185,6 +212,8 @@ variables =
       size = λ n. 5;
       ranges = severityRange ∷ letterRange ∷ itemColumn ∷ (2 to 50) ∷ (1 to 4000) ∷ [];
       rule = noRule;
+      width = 5;
+      inRow = asItStands;
     }
 
 abbrev pub kinds : List Kind
@@ -194,7 +223,7 @@ kinds = reducedSingles ∷ staged ∷ sequential ∷ variables ∷ []
 abbrev pub kindAt : ℕ → Kind
 kindAt j = getD kinds j variables
 
--- What checking a book finds: it is sound, or it is broken at a byte.
+-- What checking a book finds: it is sound, or it is broken at a byte (of entries to write: at a position).
 pub data Checked : Type 0 where
   sound : Checked
   brokenAt : ℕ → Checked

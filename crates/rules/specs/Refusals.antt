@@ -29,7 +29,7 @@ abbrev pub whileStopped : ℕ
 whileStopped = 5
 
 -- 6: no book entry under the key, or a staged total, nt or variables n above the lot size; in the mode of document 02,
--- T-01, a fractional box at a column over 15
+-- T-01, a fractional box at a column over 15; by T-03 no such entry to read
 abbrev pub noPlan : ℕ
 noPlan = 6
 
@@ -49,11 +49,12 @@ outOfRange = 9
 abbrev pub notStopped : ℕ
 notStopped = 10
 
--- 11: severity buffer shorter than the history
+-- 11: severity buffer shorter than the history; by document 02, T-03, a buffer shorter than the book, a book over its
+-- length, a row too short for an entry
 abbrev pub bufferShort : ℕ
 bufferShort = 11
 
--- 12: book breaks its layout, with the byte
+-- 12: book breaks its layout, with the byte; by document 02, T-03, a bad entry, with its position
 abbrev pub brokenBook : ℕ
 brokenBook = 12
 

@@ -35,7 +35,8 @@ use Rattle.closing.proofs.Closing.{taken-given}
 use Rattle.book.specs.declared.BookAnswer.{BookAnswer}
 use Rattle.book.specs.declared.BookAnswer.the-variants as books
 use Rattle.book.specs.Paper.{bookPaper}
-use Rattle.sentencing.proofs.Supplies.{broken-first, sound-first, table-planned}
+use Rattle.rules.proofs.EntryLaws.{broken-first, sound-first}
+use Rattle.sentencing.proofs.Supplies.{table-planned}
 use Rattle.sentencing.proofs.Verdicts.{single-refused, single-given, judged-refused, judged-given}
 use Rattle.sentencing.proofs.Verdicts.{items-in-column, checked, fractional-checked, out-of-range}
 

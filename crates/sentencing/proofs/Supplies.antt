@@ -15,7 +15,7 @@ use Rattle.rules.specs.Book.{ReducedSingle, reducedOf}
 use Rattle.rules.specs.Layout.{entryOf}
 use Rattle.rules.specs.Entries.{Asked, askedChecks, askedLetter, lookedUp, fromEntry, unlessAbove, Lettered, lettered}
 use Rattle.rules.specs.Entries.{reducedPlan, singlePlan, plainPlan}
-use Rattle.rules.proofs.Answers.{refused-given, given-one, then-given}
+use Rattle.rules.proofs.Answers.{refused-then, given-one, then-given}
 use Rattle.rules.proofs.Checks.{checks-alike, asked-kept, asked-passed, asked-letter}
 use Rattle.rules.proofs.EntryLaws.{lot-passes, lot-given, sound-given}
 use Rattle.book.specs.Places.{placeHeld}
@@ -28,22 +28,6 @@ pub refused-alike : {A B : Type 0} (c : Checked) (n p m q : ℕ)
     → _≡_ {A = Answer B} (refused m q) (onSound c (refused n p))
 refused-alike sound n p m q e = cc
 refused-alike (brokenAt byte) n p m q e = cc
-
--- a book that is broken refuses before anything else, and a sound one lets it stand
-pub broken-first : {A : Type 0} (c : Checked) (m q : ℕ) (a : Answer A)
-    → _≡_ {A = Answer (Unit {0})} (refused m q) (onSound c (given tt)) → refused m q ≡ onSound c a
-broken-first sound m q a e = absurd (refused-given e)
-broken-first (brokenAt byte) m q a e = cc
-
-pub sound-first : {A : Type 0} (c : Checked) (a : Answer A)
-    → _≡_ {A = Answer (Unit {0})} (given tt) (onSound c (given tt)) → a ≡ onSound c a
-sound-first sound a e = refl
-sound-first (brokenAt byte) a e = absurd (refused-given (sym e))
-
-refused-then : {A B : Type 0} (a : Answer A) (f : A → B) (n p : ℕ) → andThen a (λ x. given (f x)) ≡ refused n p
-    → a ≡ refused n p
-refused-then (refused m q) f n p e = cc
-refused-then (given x) f n p e = absurd (refused-given (sym e))
 
 -- a book that was checked is not checked again
 pub checked-once : {A B : Type 0} (c : Checked) (a : Answer A) (f : A → Answer B)

@@ -37,8 +37,11 @@ pub use planning::sequential_plan;
 pub use planning::single_plan;
 pub use planning::staged_plan;
 pub use planning::variables_plan;
+pub use showing::count_entries;
+pub use showing::read_entry;
 use supply::Moved;
 use supply::Supply;
+pub use writing::write_book;
 
 // What a history byte makes of a supply.
 pub fn next(old: Supply, byte: u32) -> Moved

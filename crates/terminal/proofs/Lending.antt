@@ -38,7 +38,7 @@ use Rattle.closing.specs.Paper.{closedOn, closedPaper}
 use Rattle.closing.specs.declared.ClosedAnswer.{ClosedAnswer}
 use Rattle.closing.specs.declared.ClosedAnswer.the-variants as closes
 use Rattle.terminal.specs.Lent.{SingleLeft, FractionalPlanLeft}
-use Rattle.terminal.specs.Lent.{LetterLeft, StagedPlanLeft, SequentialPlanLeft, VariablesPlanLeft}
+use Rattle.terminal.specs.Lent.{NumberLeft, StagedPlanLeft, SequentialPlanLeft, VariablesPlanLeft}
 use Rattle.terminal.specs.Lent.{OutcomeLeft, VerdictTold, VerdictLeft, ClosedLeft, NextLeft, ListLeft, ScreenLeft}
 pub use Rattle.rules.proofs.Answers.{met}
 pub use Rattle.plans.proofs.Standing.{beside-answer, planned-refused, planned-given}
@@ -137,11 +137,11 @@ module _ {A : Type 0} {a : Answer A} where
   told-given e = rw (← e)
 
 module _ {a : Answer ℕ} {l : ℕ} where
-  pub letter-refused : {n p s : ℕ} → refused n p ≡ a → s ≡ n + 256 * p → LetterLeft a s l l
-  letter-refused e f = record { status = told-refused e f; letter-left = rw (← e) }
+  pub number-refused : {n p s : ℕ} → refused n p ≡ a → s ≡ n + 256 * p → NumberLeft a s l l
+  number-refused e f = record { status = told-refused e f; number-left = rw (← e) }
 
-  pub letter-given : {x : ℕ} → given x ≡ a → LetterLeft a 0 l x
-  letter-given e = record { status = told-given e; letter-left = rw (← e) }
+  pub number-given : {x : ℕ} → given x ≡ a → NumberLeft a 0 l x
+  number-given e = record { status = told-given e; number-left = rw (← e) }
 
 module _ {A : Type 0} {planOf : A → Plan} {a : Answer A} {l m c : ℕ} where
   pub plan-refused : {n p s : ℕ} → refused n p ≡ a → s ≡ n + 256 * p → SingleLeft planOf a s l l m m c c

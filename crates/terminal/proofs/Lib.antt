@@ -1,3 +1,4 @@
+pub mod Bookwork
 pub mod Fits
 pub mod Lending
 pub mod OneResult

@@ -15,17 +15,17 @@ use Rattle.rules.specs.Supply.{Supply}
 use Rattle.rules.specs.Entries.{Lettered, Closed}
 use Rattle.rules.specs.Screen.{Shown}
 use Rattle.terminal.specs.Lent.{SingleLeft, FractionalPlanLeft}
-use Rattle.terminal.specs.Lent.{LetterLeft, StagedPlanLeft, SequentialPlanLeft, VariablesPlanLeft}
-use Rattle.terminal.specs.Lent.{OutcomeLeft, ClosedLeft, NextLeft, ListLeft, ScreenLeft}
+use Rattle.terminal.specs.Lent.{NumberLeft, StagedPlanLeft, SequentialPlanLeft, VariablesPlanLeft}
+use Rattle.terminal.specs.Lent.{OutcomeLeft, ClosedLeft, NextLeft, ListLeft, WrittenLeft, EntryLeft, ScreenLeft}
 
 -- a promise that gives what stands at exit outright gives one (and so of hm_check_book)
 pub one : {A : Type 0} {x y v : A} → x ≡ v → y ≡ v → x ≡ y
 one e f = e ∙ sym f
 
--- of hm_letter
-pub letter-one : {a : Answer ℕ} {l r l₁ s l₂ : ℕ} → LetterLeft a r l l₁ → LetterLeft a s l l₂
+-- of hm_letter and hm_count_entries
+pub number-one : {a : Answer ℕ} {l r l₁ s l₂ : ℕ} → NumberLeft a r l l₁ → NumberLeft a s l l₂
     → (r ≡ s) × (l₁ ≡ l₂)
-letter-one c d = (one (c .status) (d .status), one (c .letter-left) (d .letter-left))
+number-one c d = (one (c .status) (d .status), one (c .number-left) (d .number-left))
 
 -- of hm_plan
 pub plan-one : {A : Type 0} {planOf : A → Plan} {a : Answer A} {l n k r l₁ n₁ k₁ s l₂ n₂ k₂ : ℕ}
@@ -119,3 +119,15 @@ screen-one c d = (
   one (c .variance-left) (d .variance-left),
   one (c .both-left) (d .both-left),
 )
+
+-- of hm_write_book
+pub written-one : {a : Answer (List ℕ)} {r w₁ s w₂ w : ℕ} {out out₁ out₂ : List ℕ}
+    → WrittenLeft a r out out₁ w w₁ → WrittenLeft a s out out₂ w w₂ → (r ≡ s) × (out₁ ≡ out₂) × (w₁ ≡ w₂)
+written-one c d =
+    (one (c .status) (d .status), one (c .out-left) (d .out-left), one (c .written-left) (d .written-left))
+
+-- of hm_read_entry
+pub entry-one : {a : Answer (List ℕ)} {r n₁ s n₂ n : ℕ} {row row₁ row₂ : List ℕ}
+    → EntryLeft a r row row₁ n n₁ → EntryLeft a s row row₂ n n₂ → (r ≡ s) × (row₁ ≡ row₂) × (n₁ ≡ n₂)
+entry-one c d =
+    (one (c .status) (d .status), one (c .row-left) (d .row-left), one (c .numbers-left) (d .numbers-left))

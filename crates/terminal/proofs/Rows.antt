@@ -1,14 +1,14 @@
 -- A staged plan's row, as the code's stores leave it.
 -- Assumes nothing.
 use Prim.Native.Nat.{ℕ, suc, _+_, _*_, _/_, _%_, _≤_, _<_}
-use mathlib.Core.Path.{_≡_, refl, sym, ap, _∙_}
-use mathlib.Core.List.{List, [], _∷_, _++_}
+use mathlib.Core.Path.{_≡_, sym, ap, _∙_}
+use mathlib.Core.List.{List, _++_}
 use native.Mathlib.Omega.{arith}
 use lib.ListN.{length, getD, set, drop, length-set, length-append, drop-of-length-le}
 use lib.Seq.{sets, sets-eq, drop-cons}
 use Rattle.rules.specs.Numbers.{numberBytes}
 use Rattle.rules.specs.Terminal.{rowLength}
-use Rattle.rules.proofs.Numbers.{bytes-twice}
+use Rattle.rules.proofs.Numbers.{bytes-twice, bytes-append}
 use Rattle.rules.proofs.Stored.{sets-append}
 
 -- Seven numbers: what is still to be stored from the i-th on, before the first, past each, and past the last.
@@ -35,11 +35,6 @@ module _ (row ns : List ℕ) (from : ℕ) where
       → row ≡ sets start from (numberBytes ns)
   unfolding numberBytes
   seven-done start i h e = sym (rw (drop-of-length-le ns h)) ∙ e
-
-bytes-append : (xs ys : List ℕ) → numberBytes (xs ++ ys) ≡ numberBytes xs ++ numberBytes ys
-unfolding numberBytes
-bytes-append [] ys = refl
-bytes-append (x ∷ xs) ys = rw (bytes-append xs ys)
 
 -- The three sevens make the row.
 module _ (row s a r : List ℕ) (hs : length s ≡ 7) (ha : length a ≡ 7) (hr : length r ≡ 7) where

@@ -1,13 +1,14 @@
 -- What a call promises, of the answer that a definition gives: the status that it returns, and what each out-parameter
 -- and the lent memory hold then. A primed name is what stands at exit. Definitions only.
-use Prim.Native.Nat.{ℕ, _≤_}
+use Prim.Native.Nat.{ℕ, _*_, _≤_}
 use mathlib.Core.Path.{_≡_}
 use mathlib.Core.Bool.{Bool, false, not}
-use mathlib.Core.List.{List}
+use mathlib.Core.List.{List, _++_}
 use lib.Dec.{eqb}
 use lib.Ieee.{Float}
-use lib.ListN.{length}
+use lib.ListN.{length, drop}
 use Rattle.rules.specs.Refusals.{Answer, refused, given, andThen}
+use Rattle.rules.specs.Numbers.{numberBytes}
 use Rattle.rules.specs.Book.{checkBook, onSound}
 use Rattle.rules.specs.Verdict.{Verdict, Judged}
 use Rattle.rules.specs.Single.{Plan}
@@ -36,9 +37,10 @@ once size level column = offered false size level column
 abbrev pub again : ℕ → Bool
 again resubmitted = not (eqb resubmitted 0)
 
-pub record LetterLeft (answer : Answer ℕ) (r letter letter′ : ℕ) : Type 0 where
+-- one number: a letter, or how many entries there are
+pub record NumberLeft (answer : Answer ℕ) (r number number′ : ℕ) : Type 0 where
   pub status : r ≡ statusOf answer
-  pub letter-left : letter′ ≡ leftBy (λ l. l) answer letter
+  pub number-left : number′ ≡ leftBy (λ n. n) answer number
 
 -- a single plan, of whatever was planned
 pub record SingleLeft {A : Type 0} (planOf : A → Plan) (answer : Answer A) (r letter letter′ n n′ ac ac′ : ℕ) : Type 0
@@ -127,6 +129,18 @@ pub record ListLeft (history : List ℕ) (r : ℕ) (severities severities′ : L
 -- a book that is sound, or 12 with its byte
 abbrev pub bookChecked : List ℕ → Answer (Unit {0})
 bookChecked book = onSound (checkBook book) (given tt)
+
+-- a book that is written, its bytes past it as they were, and how many bytes it has
+pub record WrittenLeft (answer : Answer (List ℕ)) (r : ℕ) (out out′ : List ℕ) (written written′ : ℕ) : Type 0 where
+  pub status : r ≡ statusOf answer
+  pub out-left : out′ ≡ leftBy (λ b. b ++ drop (length b) out) answer out
+  pub written-left : written′ ≡ leftBy length answer written
+
+-- an entry as a row, the rest of the lent memory as it was, and how many numbers the row has
+pub record EntryLeft (answer : Answer (List ℕ)) (r : ℕ) (row row′ : List ℕ) (numbers numbers′ : ℕ) : Type 0 where
+  pub status : r ≡ statusOf answer
+  pub row-left : row′ ≡ leftBy (λ x. numberBytes x ++ drop (2 * length x) row) answer row
+  pub numbers-left : numbers′ ≡ leftBy length answer numbers
 
 abbrev pub meanOf : Shown → Float
 meanOf (mean m) = m

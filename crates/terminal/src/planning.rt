@@ -9,7 +9,7 @@ ghost use Rattle.rules.specs.Numbers.{numberBytes};
 ghost use Rattle.rules.specs.Entries.{singlePlan, fractionalPlan, stagedPlan, sequentialPlan, variablesPlan, lettered};
 ghost use Rattle.rules.specs.Terminal.{statusOf, rowLength, rowBytes};
 ghost use Rattle.entry.specs.Paper.{stagedPaper};
-ghost use Rattle.terminal.specs.Lent.{asked, LetterLeft, PlanLeft, FractionalPlanLeft, StagedPlanLeft};
+ghost use Rattle.terminal.specs.Lent.{asked, NumberLeft, PlanLeft, FractionalPlanLeft, StagedPlanLeft};
 ghost use Rattle.terminal.specs.Lent.{SequentialPlanLeft, VariablesPlanLeft, bookChecked};
 use super::telling::status;
 use book::BookAnswer;
@@ -25,7 +25,7 @@ const ROW_BYTES: usize = 42;
 // The letter of Table 1.
 #[no_mangle]
 pub extern "C" fn hm_letter(size: u32, level: u32, letter: &mut u8) -> u32
-    ensures { λ r. ⌜ LetterLeft (tableOneLetter size level) r (now (letter .entry)) (now (letter .exit)) ⌝ }
+    ensures { λ r. ⌜ NumberLeft (tableOneLetter size level) r (now (letter .entry)) (now (letter .exit)) ⌝ }
 {
     match plans::letter(size, level) {
         LetterAnswer::Refused(number, place) => status(number, place),

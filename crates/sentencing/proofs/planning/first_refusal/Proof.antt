@@ -4,7 +4,7 @@ use mathlib.Core.Path.{sym, ap, _∙_}
 use denote.Ref.{now}
 use Rattle.rules.specs.Book.{checkBook}
 use Rattle.book.specs.Paper.{bookPaper}
-use Rattle.sentencing.proofs.Supplies.{broken-first, sound-first}
+use Rattle.rules.proofs.EntryLaws.{broken-first, sound-first}
 use borrow.Author.Needs.{needs}
 use Rattle.sentencing.proofs.planning.first_refusal.Statement.{statement}
 use Rattle.sentencing.proofs.planning.first_refusal.Tie as tie

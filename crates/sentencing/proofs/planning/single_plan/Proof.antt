@@ -6,7 +6,8 @@ use Rattle.rules.specs.Book.{checkBook, onSound}
 use Rattle.rules.specs.Entries.{plainPlan, singlePlan}
 use Rattle.plans.specs.Paper.{askedPaper, beside, itself, zeroPlan}
 use Rattle.book.specs.Paper.{bookPaper}
-use Rattle.sentencing.proofs.Supplies.{broken-first, sound-first, table-planned}
+use Rattle.rules.proofs.EntryLaws.{broken-first, sound-first}
+use Rattle.sentencing.proofs.Supplies.{table-planned}
 use borrow.Author.Needs.{needs}
 use Rattle.sentencing.proofs.planning.single_plan.Statement.{statement}
 use Rattle.sentencing.proofs.planning.single_plan.Tie as tie

@@ -2,7 +2,7 @@
 -- Assumes nothing.
 use Rattle.rules.proofs.Demands.Two as two
 use Rattle.plans.specs.Paper.{letterPaper}
-use Rattle.terminal.proofs.Lending.{met, letter-refused, letter-given}
+use Rattle.terminal.proofs.Lending.{met, number-refused, number-given}
 use Rattle.terminal.proofs.Fits.{place-fits}
 use borrow.Author.Needs.{needs}
 use Rattle.terminal.proofs.planning.hm_letter.Statement.{statement}
@@ -15,13 +15,13 @@ status-requires c κs =
 
 returns : tie.Need-returns
 returns c =
-    letter-refused
+    number-refused
     (met letterPaper (c .before .before .number .given .1) (c .before .before .before .before .letter .ensures))
     (c .status .ensures)
 
 returns-2 : tie.Need-returns-2
 returns-2 c =
-    letter-given (met letterPaper (c .before .found .given .1) (c .before .before .before .letter .ensures))
+    number-given (met letterPaper (c .before .found .given .1) (c .before .before .before .letter .ensures))
 
 pub hm-letter-spec : {M : Type 1} → statement M
 hm-letter-spec =

@@ -1,0 +1,48 @@
+-- `showing::show` meets its contract.
+-- Assumes nothing.
+use Prim.Native.Nat.{ℕ, _*_, _≤_}
+use mathlib.Core.Path.{ap, _∙_}
+use mathlib.Core.List.{List}
+use native.Mathlib.Omega.{arith}
+use denote.Ref.{now}
+use lib.ListN.{length}
+use Rattle.rules.specs.Book.{kindAt}
+use Rattle.rules.proofs.Numbers.{numbers-part}
+use Rattle.rows.specs.Paper.{entryShown}
+use Rattle.showing.proofs.Places.{place-is, place-near, row-shown}
+use borrow.Author.Needs.{needs}
+use Rattle.showing.proofs.show.Statement.{statement}
+use Rattle.showing.proofs.show.Tie as tie
+
+near : (c : tie.After-entry-place) → 2 * c .entry-place .result
+    ≤ length (now (c .before .before .before .before .args .book))
+near c =
+    let a = c .before .before .before .before in
+    place-near (a .pre) _ (place-is (a .pre) _ _ (c .before .section-place .ensures .0) (c .entry-place .ensures .0))
+
+returns : tie.Need-returns
+returns c =
+    let d = c .before .before .before .before .before in
+    let a = d .before .before .before .before in
+    let book = now (a .args .book) in
+    c .before .before .show-entry .ensures
+    ∙ ap (λ (l : List ℕ). entryShown (kindAt (a .args .kind)) l (now (a .args .row)))
+    (numbers-part book (d .entry-place .result))
+    ∙ row-shown (a .pre) (d .entry-place .result)
+    (place-is (a .pre) (d .before .section-place .result) (d .entry-place .result)
+    (d .before .section-place .ensures .0) (d .entry-place .ensures .0))
+
+pub show-spec : {M : Type 1} → statement M
+show-spec =
+    tie.close
+    (tie.spec
+    (λ c κs. search needs)
+    (λ c. search needs)
+    (λ c κs. search needs)
+    (λ c. search needs)
+    (λ c. omega (arith, near c))
+    (λ c. omega (arith, near c))
+    (λ c. search needs)
+    (λ c κs. search needs)
+    (λ c. search needs)
+    returns)

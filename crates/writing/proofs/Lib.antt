@@ -1,0 +1,4 @@
+mod Checking
+mod Laying
+pub mod OneResult
+mod Telling
