@@ -21,7 +21,7 @@ struct side {
                      size_t book_len, uint8_t *letter, uint16_t *n, uint16_t *ac);
     uint32_t (*fractional_plan)(uint32_t size, uint32_t level, uint32_t column, uint32_t severity, const uint8_t *book,
                                 size_t book_len, uint8_t *letter, uint16_t *n, uint16_t *ac, uint8_t *share);
-    judge *single, *staged, *sequential;
+    judge *single, *curtailed, *staged, *sequential;
     uint32_t (*variables)(uint32_t size, uint32_t level, uint32_t column, uint32_t severity, const uint8_t *book,
                           size_t book_len, const uint8_t *readings, size_t readings_len, int32_t limit,
                           uint8_t *accepted, uint16_t *used);

@@ -10,10 +10,10 @@
 #include <string.h>
 
 const struct side sides[SIDES] = {
-    {hm_plan, hm_fractional_plan, hm_single, hm_staged, hm_sequential, hm_variables_upper, hm_close_fractional,
-     hm_check_book, hm_write_book, hm_list},
-    {ref_plan, ref_fractional_plan, ref_single, ref_staged, ref_sequential, ref_variables_upper, ref_close_fractional,
-     ref_check_book, ref_write_book, ref_list},
+    {hm_plan, hm_fractional_plan, hm_single, hm_curtailed, hm_staged, hm_sequential, hm_variables_upper,
+     hm_close_fractional, hm_check_book, hm_write_book, hm_list},
+    {ref_plan, ref_fractional_plan, ref_single, ref_curtailed, ref_staged, ref_sequential, ref_variables_upper,
+     ref_close_fractional, ref_check_book, ref_write_book, ref_list},
 };
 
 enum { MOST_ITEMS = 14000, MOST_HISTORY = 1000000, STAGES = 7 };
@@ -140,6 +140,11 @@ static void prepare_single(size_t size) {
 
 static uint64_t run_single(const struct side *side) {
     return judged(side->single);
+}
+
+/* The same items: the one bad item does not pass Ac, so that all are read. */
+static uint64_t run_curtailed(const struct side *side) {
+    return judged(side->curtailed);
 }
 
 /* Under normal R, 0.010 takes 2,000 items and L, 0.10 takes 200, both by 1/3: the one bad item passes after two lots.
@@ -315,6 +320,7 @@ const struct work works[WORKS] = {
     {"plans looked up", "lots", 1000000, 1000, 0, prepare_plans, run_plans},
     {"plans looked up in the mode of fractions", "lots", 1000000, 1000, 0, prepare_plans, run_fractional_plans},
     {"a single sample", "items", 3150, 3150, 0, prepare_single, run_single},
+    {"a curtailed sample, accepted", "items", 3150, 3150, 0, prepare_single, run_curtailed},
     {"a lot closed on a fraction", "items", 2000, 2000, 0, prepare_closed, run_closed},
     {"a staged sample", "items", 14000, 14000, 0, prepare_staged, run_staged},
     {"a sequential sample", "items", 3150, 3150, 0, prepare_sequential, run_sequential},

@@ -1,7 +1,7 @@
 /*
  * A bench's day through the C terminal: a small book written from its entries and read back; the plans of a lot, a lot
- * of each kind sentenced, then lots closed on the record of their supply, with a history that is kept and listed; last,
- * small lots of another supply in the mode of fractions.
+ * of each kind sentenced, one of them only until it is lost; then lots closed on the record of their supply, with a
+ * history that is kept and listed; last, small lots of another supply in the mode of fractions.
  * Link with libterminal.a. What it prints stands in terminal.out.
  */
 #include "../include/hipomoake.h"
@@ -190,6 +190,20 @@ static void judge_items(void) {
     print_verdict("one item more", status, accepted, used);
 }
 
+/* Items as they come off the bench, the third bad one tenth: 7 says that the lot is not decided yet. */
+static void judge_until_lost(void) {
+    uint8_t letter, accepted = 0;
+    uint16_t n, ac, used = 0;
+    if (!is_answered("plan", hm_plan(SIZE, LEVEL, COLUMN, HM_NORMAL, book, book_len, &letter, &n, &ac)))
+        return;
+    uint32_t status = HM_BAD_LENGTH;
+    draw_sample(n, 2);
+    sample[2 * 9] = 1;
+    for (size_t items = 1; status == HM_BAD_LENGTH && items <= n; items++)
+        status = hm_curtailed(SIZE, LEVEL, COLUMN, HM_NORMAL, book, book_len, sample, 2 * items, &accepted, &used);
+    print_verdict("curtailed", status, accepted, used);
+}
+
 static void judge_readings(void) {
     static const uint8_t readings[] = {NUMBER(10), NUMBER(12), NUMBER(14)};
     uint8_t accepted = 0, both = 0;
@@ -247,6 +261,17 @@ static void close_staged(uint32_t size, size_t n, size_t bad) {
     print_closed("closed, staged", status, accepted, used);
 }
 
+/* Counting stops at the third bad item, the last of these. */
+static void close_curtailed(size_t n) {
+    uint8_t accepted = 0;
+    uint16_t used = 0;
+    size_t len = draw_sample(n, 2);
+    sample[len - 2] = 1;
+    uint32_t status = hm_close_curtailed(supply, sizeof supply, HM_ORIGINAL, SIZE, LEVEL, COLUMN, book, book_len,
+                                         sample, len, &accepted, &used, &history[history_len]);
+    print_closed("curtailed", status, accepted, used);
+}
+
 /* Clean lots of a steady supply with permission lead to reduced, and a lot not accepted back to normal. */
 static void close_lots(void) {
     order("steady", HM_STEADY);
@@ -261,6 +286,7 @@ static void close_lots(void) {
         close_single(HM_ORIGINAL, 0);
     close_single(HM_ORIGINAL, 1);
     close_single(HM_ORIGINAL, 2);
+    close_curtailed(10);
 }
 
 static void list_history(void) {
@@ -346,6 +372,7 @@ int main(void) {
     print_staged_plan();
     print_other_plans();
     judge_items();
+    judge_until_lost();
     judge_readings();
     close_lots();
     list_history();

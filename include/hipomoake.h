@@ -1,6 +1,7 @@
 /*
- * Hipomoake for C: acceptance sampling by attributes (single, with fractional acceptance numbers or without, staged,
- * sequential) and by variables (s method), with the severity record of a supply and the severities of its history.
+ * Hipomoake for C: acceptance sampling by attributes (single, in full or curtailed, with fractional acceptance numbers
+ * or without; staged; sequential) and by variables (s method), with the severity record of a supply and the severities
+ * of its history.
  *
  * THE ARCHIVE. `rt staticlib terminal` writes libterminal.a, for Linux on x86-64. On an Arm machine, link with a cross
  * compiler (x86_64-linux-gnu-gcc -static) and run the program under the kit's emulator, qemu-x86_64.
@@ -10,8 +11,9 @@
  * 56 bits for the place (HM_LIST_NUMBER, HM_LIST_PLACE). A place is the byte of a broken book, or of a history, or the
  * position of a bad entry; elsewhere it is 0. On a refusal nothing is written: all memory holds what it held before the
  * call. Of several reasons to refuse, HM_BROKEN_BOOK is given first, then the lowest number, but for two walks: a
- * staged or sequential sample gives whichever of HM_BAD_LENGTH and HM_BAD_ITEM is met first, and a history its first
- * bad byte before HM_SHORT_BUFFER. No number passed by value is out of bounds: garbage is refused, never undefined.
+ * staged, sequential or curtailed sample gives whichever of HM_BAD_LENGTH and HM_BAD_ITEM is met first, and a history
+ * its first bad byte before HM_SHORT_BUFFER. No number passed by value is out of bounds: garbage is refused, never
+ * undefined.
  *
  * MEMORY. All memory is the caller's. A function keeps no pointer after it returns, allocates nothing, and has no
  * state of its own: calls on different memory may run at the same time. Pointers are never null (a length of 0 still
@@ -30,7 +32,8 @@
  *
  * THE SAMPLE, in functions on attributes: the items in the order inspected, one number each; to HM_AQL_10 each is 0
  * (conforms) or 1 (does not), above it the item's nonconformities, 0 to 65,535. A single sample has exactly the plan's
- * n items. A staged sample ends with the stage that decides, a sequential one with the item that decides.
+ * n items. A staged sample ends with the stage that decides, a sequential one with the item that decides. A curtailed
+ * one ends with the item at which its total passes the single plan's Ac, where it does, and else at n.
  *
  * THE BOOK: at most HM_BOOK_BYTES bytes, four sections in this order, each after its count of entries; nothing follows.
  * An entry's numbers up to the bar are its key; keys rise strictly within a section, compared from the first number.
@@ -82,9 +85,10 @@
  * fraction, and makes it 1 where there is none or it stands on another: a lot of another letter or column starts the
  * run again, one of another size or level under the same letter goes on with it. It is cleared, with its letter and
  * column, by a sample that is not clean, also where it is accepted; by any other original lot: on a whole Ac, closed by
- * hm_close_single or hm_close_staged (also a lot that would be on the same fraction), or entered by hm_next as a byte;
- * and by a change of severity, for the lot that changes it as well. Orders that leave the severity, resubmitted lots,
- * and sequential and variables lots leave the run as it is; a resubmitted lot is judged by the run as it stands.
+ * hm_close_single, hm_close_curtailed or hm_close_staged (also a lot that would be on the same fraction), or entered by
+ * hm_next as a byte; and by a change of severity, for the lot that changes it as well. Orders that leave the severity,
+ * resubmitted lots, and sequential and variables lots leave the run as it is; a resubmitted lot is judged by the run as
+ * it stands.
  *
  * THE HISTORY of a supply: one byte for each lot and each order, HM_ACCEPTED_ADD_3 to HM_CORRECTIVE, from a fresh
  * record on. The functions that close a lot tell its byte; the byte of hm_next is its event. A bench that keeps the
@@ -131,8 +135,10 @@ enum {
     HM_BAD_COLUMN   = 4,  /* a column over HM_AQL_1000 */
     HM_IS_STOPPED   = 5,  /* any lot, resubmitted ones too, while inspection is stopped */
     HM_NO_PLAN      = 6,  /* no book entry under the lot's key; a staged total, nt or variables n above the size; a
-                             fraction at a column over HM_AQL_10; no such entry to read */
-    HM_BAD_LENGTH   = 7,  /* a sample of the wrong length, half an item included; for hm_screen not 1 to 50 readings */
+                             fraction at a column over HM_AQL_10; no such entry to read; a curtailed sample under
+                             HM_REDUCED */
+    HM_BAD_LENGTH   = 7,  /* a sample of the wrong length, half an item included; a curtailed one that ends before its
+                             end or goes on past it; for hm_screen not 1 to 50 readings */
     HM_BAD_ITEM     = 8,  /* an item over 1 where items are 0 or 1 */
     HM_BAD_READING  = 9,  /* a reading or a limit not in -1,000 to 1,000 */
     HM_NOT_STOPPED  = 10, /* a corrective order when inspection is not stopped */
@@ -295,6 +301,20 @@ uint32_t hm_sequential(uint32_t size, uint32_t level, uint32_t column, uint32_t 
                        size_t book_len, const uint8_t *sample, size_t sample_len, uint8_t *accepted, uint16_t *used);
 
 /*
+ * Judge a curtailed sample by the lot's single plan (n and Ac of hm_plan), under normal or tightened: counting stops at
+ * the item at which the total passes Ac, since the lot is then lost, whatever the rest would hold. The lot is accepted
+ * or not as hm_single says of any legal full sample that begins so, and never accepted before n.
+ *   accepted  1 or 0
+ *   used      items used: all of the sample; n where the lot is accepted
+ * It may be called after each item, with all items so far: HM_BAD_LENGTH says to go on, and the first answer is the
+ * verdict. Stop there: with an item more the sample is HM_BAD_LENGTH again, and stays so.
+ * Refuses 1 2 3 4 5 6 7 8 12; 6 under HM_REDUCED, whatever the book has; 7 for a sample that ends before its end or
+ * goes on past it.
+ */
+uint32_t hm_curtailed(uint32_t size, uint32_t level, uint32_t column, uint32_t severity, const uint8_t *book,
+                      size_t book_len, const uint8_t *sample, size_t sample_len, uint8_t *accepted, uint16_t *used);
+
+/*
  * Judge readings by the lot's variables plan (s method) against an upper or a lower limit.
  *   readings  exactly the plan's n, in gauge units from nominal, each -1,000 to 1,000
  *   limit     in the same units, -1,000 to 1,000
@@ -322,13 +342,16 @@ uint32_t hm_fractional(const uint8_t *record, size_t record_len, uint32_t size, 
 /* ---- the record and the history of a supply */
 
 /*
- * Judge a sample at the record's severity, by the lot's single plan, its staged plan or its single plan in the mode of
- * fractions, and move the record by the verdict. A resubmitted lot is judged alike and leaves the record as it is.
+ * Judge a sample at the record's severity, by the lot's single plan (hm_close_curtailed: a curtailed sample), its
+ * staged plan, or its single plan in the mode of fractions, and move the record by the verdict. A resubmitted lot is
+ * judged alike and leaves the record as it is. A curtailed sample moves the record as any legal full one that begins
+ * so.
  *   resubmitted  HM_ORIGINAL, which is 0, for an original lot; HM_RESUBMITTED, or anything else, for a resubmitted one
  *   accepted     1 or 0
  *   used         items used: all of the sample
  *   byte         the history byte that the lot stands for, HM_ACCEPTED_ADD_3 to HM_RESUBMITTED
- * Each refuses 1 2 3 4 5 6 7 8 12; hm_close_fractional gives 6 also for a fraction at a column over 15.
+ * Each refuses 1 2 3 4 5 6 7 8 12; hm_close_fractional gives 6 also for a fraction at a column over 15,
+ * hm_close_curtailed under HM_REDUCED, whatever the book has.
  */
 uint32_t hm_close_single(uint8_t *record, size_t record_len, uint32_t resubmitted, uint32_t size, uint32_t level,
                          uint32_t column, const uint8_t *book, size_t book_len, const uint8_t *sample,
@@ -339,6 +362,9 @@ uint32_t hm_close_staged(uint8_t *record, size_t record_len, uint32_t resubmitte
 uint32_t hm_close_fractional(uint8_t *record, size_t record_len, uint32_t resubmitted, uint32_t size, uint32_t level,
                              uint32_t column, const uint8_t *book, size_t book_len, const uint8_t *sample,
                              size_t sample_len, uint8_t *accepted, uint16_t *used, uint8_t *byte);
+uint32_t hm_close_curtailed(uint8_t *record, size_t record_len, uint32_t resubmitted, uint32_t size, uint32_t level,
+                            uint32_t column, const uint8_t *book, size_t book_len, const uint8_t *sample,
+                            size_t sample_len, uint8_t *accepted, uint16_t *used, uint8_t *byte);
 
 /*
  * Move the record by one event, HM_ACCEPTED_ADD_3 to HM_CORRECTIVE: an order, or an attributes lot judged elsewhere,

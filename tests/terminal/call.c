@@ -2,6 +2,7 @@
 #include "call.h"
 
 #include "../../include/hipomoake.h"
+#include "curtail.h"
 #include "draw.h"
 #include "packed.h"
 #include "reference.h"
@@ -43,10 +44,10 @@ struct library {
                                 uint16_t *, uint16_t *, uint16_t *, uint16_t *);
     uint32_t (*variables_plan)(uint32_t, uint32_t, uint32_t, uint32_t, const uint8_t *, size_t, uint8_t *, uint16_t *,
                                uint16_t *);
-    judge_function *single, *staged, *sequential;
+    judge_function *single, *staged, *sequential, *curtailed;
     variables_function *upper, *lower;
     fractional_function *fractional;
-    close_function *close_single, *close_staged, *close_fractional;
+    close_function *close_single, *close_staged, *close_fractional, *close_curtailed;
     uint32_t (*next)(uint8_t *, size_t, uint32_t);
     uint64_t (*list)(const uint8_t *, size_t, uint8_t *, size_t);
     uint32_t (*check_book)(const uint8_t *, size_t);
@@ -61,9 +62,9 @@ struct library {
 #define LIBRARY(of)                                                                                                    \
     {                                                                                                                  \
         of##_letter, of##_plan, of##_fractional_plan, of##_staged_plan, of##_sequential_plan, of##_variables_plan,     \
-            of##_single, of##_staged, of##_sequential, of##_variables_upper, of##_variables_lower, of##_fractional,    \
-            of##_close_single, of##_close_staged, of##_close_fractional, of##_next, of##_list, of##_check_book,        \
-            of##_write_book, of##_count_entries, of##_read_entry, of##_screen                                          \
+            of##_single, of##_staged, of##_sequential, of##_curtailed, of##_variables_upper, of##_variables_lower,     \
+            of##_fractional, of##_close_single, of##_close_staged, of##_close_fractional, of##_close_curtailed,        \
+            of##_next, of##_list, of##_check_book, of##_write_book, of##_count_entries, of##_read_entry, of##_screen   \
     }
 
 static const struct library proved = LIBRARY(hm), reference = LIBRARY(ref);
@@ -89,12 +90,14 @@ static const struct {
     [SINGLE] = {"hm_single", ITEM_NUMBERS, true, 0},
     [STAGED] = {"hm_staged", ITEM_NUMBERS, true, 0},
     [SEQUENTIAL] = {"hm_sequential", ITEM_NUMBERS, true, 0},
+    [CURTAILED] = {"hm_curtailed", ITEM_NUMBERS, true, 0},
     [UPPER] = {"hm_variables_upper", LOT_NUMBERS | BIT(7) | BIT(9), true, 0},
     [LOWER] = {"hm_variables_lower", LOT_NUMBERS | BIT(7) | BIT(9), true, 0},
     [FRACTIONAL] = {"hm_fractional", ITEM_NUMBERS, true, 0},
     [CLOSE_SINGLE] = {"hm_close_single", ITEM_NUMBERS, true, SINGLE_BYTES},
     [CLOSE_STAGED] = {"hm_close_staged", ITEM_NUMBERS, true, BIT(0) | BIT(2) | BIT(3) | BIT(4)},
     [CLOSE_FRACTIONAL] = {"hm_close_fractional", ITEM_NUMBERS, true, SINGLE_BYTES},
+    [CLOSE_CURTAILED] = {"hm_close_curtailed", ITEM_NUMBERS, true, SINGLE_BYTES},
     [NEXT] = {"hm_next", BIT(1) | BIT(5) | BIT(10), false, 0},
     [LIST] = {"hm_list", BIT(1) | BIT(5) | BIT(10) | BIT(11), false, 0},
     [CHECK_BOOK] = {"hm_check_book", BIT(12), false, 0},
@@ -196,6 +199,20 @@ static uint32_t run_close(close_function *close, const struct call *c, const uin
                  c->sample_len, &a->accepted, &a->used, &a->byte);
 }
 
+static uint32_t run_closing(const struct library *of, const struct call *c, const uint8_t *book, const uint8_t *sample,
+                            struct answer *a) {
+    switch (c->function) {
+    case CLOSE_SINGLE:
+        return run_close(of->close_single, c, book, sample, a);
+    case CLOSE_STAGED:
+        return run_close(of->close_staged, c, book, sample, a);
+    case CLOSE_FRACTIONAL:
+        return run_close(of->close_fractional, c, book, sample, a);
+    default:
+        return run_close(of->close_curtailed, c, book, sample, a);
+    }
+}
+
 static uint32_t run_plan(const struct library *of, const struct call *c, const uint8_t *book, uint8_t *out,
                          struct answer *a) {
     switch (c->function) {
@@ -246,6 +263,8 @@ static uint64_t run(const struct library *of, const struct call *c, const uint8_
         return run_judge(of->staged, c, book, sample, a);
     case SEQUENTIAL:
         return run_judge(of->sequential, c, book, sample, a);
+    case CURTAILED:
+        return run_judge(of->curtailed, c, book, sample, a);
     case UPPER:
         return run_variables(of->upper, c, book, sample, a);
     case LOWER:
@@ -253,11 +272,10 @@ static uint64_t run(const struct library *of, const struct call *c, const uint8_
     case FRACTIONAL:
         return run_fractional(of->fractional, c, book, sample, a);
     case CLOSE_SINGLE:
-        return run_close(of->close_single, c, book, sample, a);
     case CLOSE_STAGED:
-        return run_close(of->close_staged, c, book, sample, a);
     case CLOSE_FRACTIONAL:
-        return run_close(of->close_fractional, c, book, sample, a);
+    case CLOSE_CURTAILED:
+        return run_closing(of, c, book, sample, a);
     case NEXT:
         return of->next(a->record, c->record_len, c->event);
     case LIST:
@@ -277,7 +295,7 @@ static uint64_t run(const struct library *of, const struct call *c, const uint8_
 /* ---- what was counted */
 
 bool takes_record(enum function f) {
-    return f == FRACTIONAL || f == CLOSE_SINGLE || f == CLOSE_STAGED || f == CLOSE_FRACTIONAL;
+    return f == FRACTIONAL || f == CLOSE_SINGLE || f == CLOSE_STAGED || f == CLOSE_FRACTIONAL || f == CLOSE_CURTAILED;
 }
 
 unsigned sample_total(const struct call *c) {
@@ -389,6 +407,8 @@ uint64_t run_both(const struct call *c, struct answer *a) {
         hold_to_reading(c, status);
     if (c->function == WRITE_BOOK)
         hold_to_reader(c, status, a);
+    if (is_curtailed(c->function))
+        hold_to_full_count(c, status, a);
     count(c, status, a);
     return status;
 }
@@ -456,6 +476,7 @@ static bool summary_of_fractions(void) {
 bool summary(void) {
     bool ok = summary_of_fractions();
     ok = summary_of_books() && ok;
+    ok = summary_of_curtailed() && ok;
     unsigned long calls = 0;
     for (int f = 0; f < FUNCTIONS; f++) {
         ok = summary_of((enum function)f) && ok;

@@ -28,6 +28,12 @@ void every_entry(void);
 /* T-03: drawn books read as rows and written again, and drawn rows written and read back. */
 void round_trips(void);
 
+/* T-04: worked samples, the record after them, reduced and stopped, and refusals in their order. */
+void curtailed_cases(void);
+
+/* T-04: every full sample of small plans has one beginning that is answered, and as the full count is. */
+void every_curtailed(void);
+
 /* Every mixture of what a lot can be refused for, in each function that takes one. */
 void refusal_cases(void);
 

@@ -9,7 +9,7 @@
 #include <stdio.h>
 #include <stdlib.h>
 
-enum { CASES = 1320000, SUPPLIES = 12, SUPPLY_EVENTS = 3000 };
+enum { CASES = 1370000, SUPPLIES = 12, SUPPLY_EVENTS = 3000 };
 
 int main(int argc, char **argv) {
     static struct call call;
@@ -31,6 +31,8 @@ int main(int argc, char **argv) {
     writing_cases();
     every_entry();
     round_trips();
+    curtailed_cases();
+    every_curtailed();
     refusal_cases();
     history_cases();
     ok = summary() && ok;

@@ -2,6 +2,7 @@
 #include "draw.h"
 
 #include "book.h"
+#include "curtail.h"
 #include "packed.h"
 #include "reference.h"
 #include "rows.h"
@@ -65,7 +66,7 @@ static void draw_lot(struct call *c) {
     c->severity = one_in(60) ? any_number() : one_in(40) ? STOPPED : below(3);
     if (in_mode(c->function) ? !one_in(6) : takes_record(c->function) && one_in(4))
         aim_at_fraction(c);
-    if (in_mode(c->function) && one_in(2))
+    if ((in_mode(c->function) || is_curtailed(c->function)) && one_in(2))
         c->severity = below(2);
 }
 
@@ -146,6 +147,11 @@ static void draw_record(struct call *c) {
 
 /* ---- samples of items */
 
+static void set_item(struct call *c, size_t item, unsigned number) {
+    c->sample[2 * item] = (uint8_t)number;
+    c->sample[2 * item + 1] = (uint8_t)(number >> 8);
+}
+
 /* Appends n items that come to the total, as near as items can, and gives what they come to. */
 static unsigned put_items(struct call *c, unsigned n, unsigned total) {
     unsigned most = c->column > MOST_ITEM_COLUMN ? 65535 : 1, wanted = total;
@@ -178,6 +184,34 @@ static void draw_single_sample(struct call *c, enum mood mood) {
         put_items(c, n, total_near(ac, n, mood));
     else
         put_items(c, below(20), below(3));
+}
+
+/* A full sample whose total passes Ac early, late, at the very last item, or not. */
+static void draw_items_to_curtail(struct call *c, unsigned n, unsigned ac) {
+    if (one_in(6)) {
+        put_items(c, n - 1, ac);
+        put_item(c, below(2));
+    } else {
+        put_items(c, n, one_in(2) ? ac + between(1, 2 * ac + 2) : total_near(ac, n, ANY));
+    }
+    if (c->column > MOST_ITEM_COLUMN && one_in(6))
+        set_item(c, below(n), one_in(2) ? 65535 : ac + 1);
+}
+
+/* Ends with the item that decides; at times a sample goes on to n all the same. */
+static void draw_curtailed_sample(struct call *c, enum mood mood) {
+    uint8_t letter;
+    uint16_t n, ac;
+    if (ref_plan(c->size, c->level, c->column, c->severity, c->book, c->book_len, &letter, &n, &ac) != 0) {
+        put_items(c, below(20), below(3));
+        return;
+    }
+    if (mood == ANY)
+        draw_items_to_curtail(c, n, ac);
+    else
+        put_items(c, n, total_near(ac, n, mood));
+    if (mood != ANY || !one_in(8))
+        curtail(c, n, ac);
 }
 
 /* On a fraction the total is 0, 1 or 2. */
@@ -235,11 +269,6 @@ static unsigned illegal_item(void) {
     return PICK(items);
 }
 
-static void set_item(struct call *c, size_t item, unsigned number) {
-    c->sample[2 * item] = (uint8_t)number;
-    c->sample[2 * item + 1] = (uint8_t)(number >> 8);
-}
-
 static void damage_sample(struct call *c) {
     size_t items = c->sample_len / 2;
     switch (below(8)) {
@@ -250,7 +279,7 @@ static void damage_sample(struct call *c) {
         c->sample_len = below((uint32_t)c->sample_len + 1);
         break;
     case 2:
-        put_item(c, one_in(4) ? illegal_item() : below(2));
+        put_item(c, one_in(2) ? illegal_item() : below(2));
         break;
     case 3:
         c->sample_len -= items > 0;
@@ -275,6 +304,8 @@ static void draw_items(struct call *c, const struct plans *p, enum mood mood) {
         draw_single_sample(c, mood);
     else if (c->function == FRACTIONAL || c->function == CLOSE_FRACTIONAL)
         draw_fractional_sample(c, mood);
+    else if (is_curtailed(c->function))
+        draw_curtailed_sample(c, mood);
     else if (c->function != SEQUENTIAL && p->there[1])
         draw_staged_sample(c, p, mood);
     else if (c->function == SEQUENTIAL && p->there[2])
@@ -420,12 +451,12 @@ static void draw_room(struct call *c) {
 
 static enum function draw_function(void) {
     static const uint8_t often[FUNCTIONS] = {
-        [LETTER] = 1,         [PLAN] = 7,       [FRACTIONAL_PLAN] = 4, [STAGED_PLAN] = 5,  [SEQUENTIAL_PLAN] = 3,
-        [VARIABLES_PLAN] = 3, [SINGLE] = 8,     [STAGED] = 11,         [SEQUENTIAL] = 10,  [UPPER] = 6,
-        [LOWER] = 6,          [FRACTIONAL] = 5, [CLOSE_SINGLE] = 8,    [CLOSE_STAGED] = 7, [CLOSE_FRACTIONAL] = 6,
-        [NEXT] = 4,           [LIST] = 1,       [CHECK_BOOK] = 4,      [WRITE_BOOK] = 6,   [COUNT_ENTRIES] = 1,
-        [READ_ENTRY] = 3,     [SCREEN] = 1};
-    unsigned at = below(110), f = 0;
+        [LETTER] = 1,         [PLAN] = 7,       [FRACTIONAL_PLAN] = 4, [STAGED_PLAN] = 5,    [SEQUENTIAL_PLAN] = 3,
+        [VARIABLES_PLAN] = 3, [SINGLE] = 8,     [STAGED] = 11,         [SEQUENTIAL] = 10,    [UPPER] = 6,
+        [LOWER] = 6,          [FRACTIONAL] = 5, [CLOSE_SINGLE] = 8,    [CLOSE_STAGED] = 7,   [CLOSE_FRACTIONAL] = 6,
+        [NEXT] = 4,           [LIST] = 1,       [CHECK_BOOK] = 4,      [WRITE_BOOK] = 6,     [COUNT_ENTRIES] = 1,
+        [READ_ENTRY] = 3,     [SCREEN] = 1,     [CURTAILED] = 3,       [CLOSE_CURTAILED] = 4};
+    unsigned at = below(117), f = 0;
     for (; at >= often[f]; f++)
         at -= often[f];
     return (enum function)f;
@@ -437,7 +468,7 @@ static void draw_sample(struct call *c, const struct plans *p) {
         return;
     }
     draw_items(c, p, ANY);
-    if (one_in(5))
+    if (one_in(is_curtailed(c->function) ? 3 : 5))
         damage_sample(c);
     if (one_in(25))
         damage_sample(c);

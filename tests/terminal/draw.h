@@ -14,8 +14,8 @@ void draw_case(struct call *call);
 
 /*
  * The next lot of a supply, closed on the call's record: a book that has its plans, and a sample that fits, mostly good
- * or mostly bad. The function is CLOSE_SINGLE, CLOSE_STAGED or CLOSE_FRACTIONAL, which mostly goes on with the plan of
- * the record's clean run.
+ * or mostly bad. The function is one that closes a lot; CLOSE_FRACTIONAL mostly goes on with the plan of the record's
+ * clean run.
  */
 void draw_next_lot(struct call *call, bool good);
 

@@ -222,7 +222,8 @@ static void every_event_on_a_run(void) {
 
 /* Only ten bytes are a record. */
 static void every_length(void) {
-    static const enum function functions[] = {NEXT, FRACTIONAL, CLOSE_SINGLE, CLOSE_STAGED, CLOSE_FRACTIONAL};
+    static const enum function functions[] = {NEXT,         FRACTIONAL,       CLOSE_SINGLE,
+                                              CLOSE_STAGED, CLOSE_FRACTIONAL, CLOSE_CURTAILED};
     begin(NEXT);
     put_words_book(&call);
     put_word(&call, "sF0");
@@ -249,7 +250,7 @@ static void go_on(const char *word) {
 
 static void every_ending(unsigned more) {
     static const char *const words[] = {"F0", "F1",  "f0",  "G0",  "G1", "g1", "F'0", "H0", "H1",
-                                        "E0", "oG0", "sG0", "rG1", "b1", "b3", "b4",  "b5"};
+                                        "E0", "oG0", "sG0", "rG1", "b1", "b3", "b4",  "b5", "cG0"};
     uint8_t record[RECORD];
     size_t len = told.len;
     if (more == 0)

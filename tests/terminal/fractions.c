@@ -143,6 +143,11 @@ static const struct run_case runs[] = {
     {"a staged lot ends the run", {0}, "F0+1 F0+2 sF0+0 F1-0", NORMAL, 0},
     {"the same box in the old mode ends the run", {0}, "F0+1 F0+2 oF0+0 F1-0", NORMAL, 0},
     {"and in 1/2", {0}, "G0+1 G0+2 oG0+0 G1-0", NORMAL, 0},
+    {"and curtailed", {0}, "F0+1 F0+2 cF0+0 F1-0", NORMAL, 0},
+    {"and curtailed with one item that passes", {0}, "G0+1 G0+2 cG1+0 G0+1 G1+0", NORMAL, 10},
+    {"and a curtailed lot that is lost", {0}, "G0+1 G0+2 cG2-0 G0+1", NORMAL, 2},
+    {"and a curtailed lot on another plan", {0}, "G0+1 cJ0+0 G0+1", NORMAL, 7},
+    {"and curtailed under tightened", {TIGHTENED}, "G0+1 G0+2 cG0+0 G1-0", TIGHTENED, 0},
     {"byte 0 ends the run", {0}, "F0+1 F0+2 b0=0 F1-0", NORMAL, 0},
     {"byte 1 ends the run", {0}, "F0+1 F0+2 b1=0 F1-0", NORMAL, 0},
     {"byte 2 ends the run", {0}, "F0+1 F0+2 b2=0 F1-0", NORMAL, 0},
@@ -153,7 +158,7 @@ static const struct run_case runs[] = {
     {"orders under tightened leave the run", {TIGHTENED}, "H0+1 b5=1 b7=1 b6=1 b8=1 H1+0", TIGHTENED, 0},
     {"byte 4 leaves the run", {0}, "F0+1 b4=1 F0+2 b4=2 F1+0", NORMAL, 6},
     {"resubmitted lots leave the run", {0}, "F0+1 rF0+1 F0+2 rF2-2 rG0+2 rE0+2 rF'0+2 F1+0", NORMAL, 6},
-    {"in the other modes as well", {0}, "F0+1 roF0+1 rsF0+1 F0+2 roE1-2 rsG2-2 F1+0", NORMAL, 6},
+    {"in the other modes as well", {0}, "F0+1 roF0+1 rsF0+1 rcF0+1 F0+2 roE1-2 rsG2-2 rcE1-2 rcG2-2 F1+0", NORMAL, 6},
     {"and are judged by the run as it stands", {0}, "rF1-0 F0+1 rF1-1 F0+2 rF1+2 rF1+2 rG1-2 F1+0", NORMAL, 6},
     {"sequential and variables lots are passed over", {0}, "F0+1 qF0+1 qF1-1 F0+2 vF0+2 vF1-2 F1+0", NORMAL, 6},
 
@@ -257,7 +262,8 @@ static const struct record_case right_records[] = {
 
 /* The record lent to every function that takes one. */
 static void expect_record(const struct record_case *record, bool in_range) {
-    static const char *const words[] = {"F0", "rG0", "H0", "oF0", "roG0", "sF0", "b0", "b4", "b5", "b8"};
+    static const char *const words[] = {"F0",  "rG0",  "H0", "oF0", "roG0", "sF0", "cF0",
+                                        "cF1", "rcG0", "b0", "b4",  "b5",   "b8"};
     memset(&call, 0, sizeof call);
     put_words_book(&call);
     for (unsigned i = 0; i < sizeof words / sizeof *words; i++) {

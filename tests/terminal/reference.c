@@ -1,6 +1,6 @@
 /*
  * A plain reading of document 01, section by section, with the record kept from lot to lot, and of document 02: the
- * fractions of T-01, the score of T-02 and the written book of T-03. See reference.h.
+ * fractions of T-01, the score of T-02, the written book of T-03 and the curtailed count of T-04. See reference.h.
  */
 #include "reference.h"
 
@@ -381,6 +381,25 @@ static uint32_t judge_single(const struct lot *lot, const uint8_t *bytes, size_t
                              struct verdict *verdict) {
     uint32_t status = find_single(lot, plan);
     return status != 0 ? status : judge_items(lot, bytes, len, plan->n, plan->ac, verdict);
+}
+
+/* ---- single sampling, curtailed: by the tables alone, item by item until the lot is lost or the sample whole */
+
+static uint32_t judge_curtailed(const struct lot *lot, const uint8_t *bytes, size_t len, struct single_plan *plan,
+                                struct verdict *verdict) {
+    struct sample sample = sample_for(lot, bytes, len);
+    if (lot->severity == REDUCED)
+        return 6;
+    uint32_t status = find_single(lot, plan);
+    *verdict = (struct verdict){1, 0, 0, 1};
+    while (status == 0 && verdict->accepted && verdict->used < plan->n) {
+        status = add_items(&sample, verdict->used, 1, &verdict->total);
+        verdict->used++;
+        verdict->accepted = verdict->total <= plan->ac;
+    }
+    if (status == 0 && len > 2 * (size_t)verdict->used)
+        return 7;
+    return status;
 }
 
 /* ---- single sampling with fractions: the box of the lot's own letter, where that is one */
@@ -852,6 +871,17 @@ uint32_t ref_sequential(uint32_t size, uint32_t level, uint32_t column, uint32_t
     return answer(status, &verdict, accepted, used);
 }
 
+uint32_t ref_curtailed(uint32_t size, uint32_t level, uint32_t column, uint32_t severity, const uint8_t *book,
+                       size_t book_len, const uint8_t *sample, size_t sample_len, uint8_t *accepted, uint16_t *used) {
+    struct lot lot = {.size = size, .level = level, .column = column, .severity = severity};
+    struct single_plan plan;
+    struct verdict verdict;
+    uint32_t status = open_lot(&lot, book, book_len);
+    if (status == 0)
+        status = judge_curtailed(&lot, sample, sample_len, &plan, &verdict);
+    return answer(status, &verdict, accepted, used);
+}
+
 /* The side is 1 for an upper limit and -1 for a lower one. */
 static uint32_t variables(struct lot lot, const uint8_t *book, size_t book_len, const uint8_t *readings,
                           size_t readings_len, int32_t limit, int side, uint8_t *accepted, uint16_t *used) {
@@ -963,6 +993,22 @@ uint32_t ref_close_fractional(uint8_t *record, size_t record_len, uint32_t resub
     if (status == 0)
         close_lot(record, &r, resubmitted, single_event(&lot, &plan, &verdict),
                   clean_after(&r.clean, &lot, &plan, &verdict), byte);
+    return answer(status, &verdict, accepted, used);
+}
+
+/* A lot that is lost has no points, and one that is not was counted whole: the total tells all that the score needs. */
+uint32_t ref_close_curtailed(uint8_t *record, size_t record_len, uint32_t resubmitted, uint32_t size, uint32_t level,
+                             uint32_t column, const uint8_t *book, size_t book_len, const uint8_t *sample,
+                             size_t sample_len, uint8_t *accepted, uint16_t *used, uint8_t *byte) {
+    struct lot lot = {.size = size, .level = level, .column = column};
+    struct record r;
+    struct single_plan plan;
+    struct verdict verdict;
+    uint32_t status = open_close(&r, record, record_len, &lot, book, book_len);
+    if (status == 0)
+        status = judge_curtailed(&lot, sample, sample_len, &plan, &verdict);
+    if (status == 0)
+        close_lot(record, &r, resubmitted, single_event(&lot, &plan, &verdict), no_clean, byte);
     return answer(status, &verdict, accepted, used);
 }
 

@@ -1,5 +1,5 @@
 /*
- * A plain reading of document 01, and of T-01 to T-03 of document 02, in C, written from the documents alone. A ref_
+ * A plain reading of document 01, and of T-01 to T-04 of document 02, in C, written from the documents alone. A ref_
  * function answers as the hm_ function of the same name in hipomoake.h must. The last ones have none: lotlog's closing,
  * and the written reading of a history.
  */
@@ -27,6 +27,8 @@ uint32_t ref_staged(uint32_t size, uint32_t level, uint32_t column, uint32_t sev
                     size_t book_len, const uint8_t *sample, size_t sample_len, uint8_t *accepted, uint16_t *used);
 uint32_t ref_sequential(uint32_t size, uint32_t level, uint32_t column, uint32_t severity, const uint8_t *book,
                         size_t book_len, const uint8_t *sample, size_t sample_len, uint8_t *accepted, uint16_t *used);
+uint32_t ref_curtailed(uint32_t size, uint32_t level, uint32_t column, uint32_t severity, const uint8_t *book,
+                       size_t book_len, const uint8_t *sample, size_t sample_len, uint8_t *accepted, uint16_t *used);
 uint32_t ref_variables_upper(uint32_t size, uint32_t level, uint32_t column, uint32_t severity, const uint8_t *book,
                              size_t book_len, const uint8_t *readings, size_t readings_len, int32_t limit,
                              uint8_t *accepted, uint16_t *used);
@@ -45,6 +47,9 @@ uint32_t ref_close_staged(uint8_t *record, size_t record_len, uint32_t resubmitt
 uint32_t ref_close_fractional(uint8_t *record, size_t record_len, uint32_t resubmitted, uint32_t size, uint32_t level,
                               uint32_t column, const uint8_t *book, size_t book_len, const uint8_t *sample,
                               size_t sample_len, uint8_t *accepted, uint16_t *used, uint8_t *byte);
+uint32_t ref_close_curtailed(uint8_t *record, size_t record_len, uint32_t resubmitted, uint32_t size, uint32_t level,
+                             uint32_t column, const uint8_t *book, size_t book_len, const uint8_t *sample,
+                             size_t sample_len, uint8_t *accepted, uint16_t *used, uint8_t *byte);
 uint32_t ref_next(uint8_t *record, size_t record_len, uint32_t event);
 uint64_t ref_list(const uint8_t *history, size_t len, uint8_t *severities, size_t room);
 uint32_t ref_check_book(const uint8_t *book, size_t book_len);

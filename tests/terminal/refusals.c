@@ -1,6 +1,7 @@
 /* Every mixture of what a lot can be refused for, in each function that takes one: which number is given, and first. */
 #include "book.h"
 #include "cases.h"
+#include "curtail.h"
 #include "draw.h"
 
 #include <string.h>
@@ -78,7 +79,7 @@ static void put_kind_of_record(unsigned kind) {
 
 /* ---- the mixtures */
 
-/* What is refused before a plan is looked up; 0 where nothing is. */
+/* What is refused before a sample is looked at, but for a plan that the book lacks; 0 where nothing is. */
 static unsigned early_refusal(unsigned book) {
     bool kept = takes_record(call.function);
     uint32_t severity = kept ? call.record[0] : call.severity;
@@ -94,7 +95,7 @@ static unsigned early_refusal(unsigned book) {
         return 3;
     if (call.column > 25)
         return 4;
-    return severity == STOPPED ? 5 : 0;
+    return severity == STOPPED ? 5 : severity == REDUCED && is_curtailed(call.function) ? 6 : 0;
 }
 
 static void run_mixture(unsigned book) {

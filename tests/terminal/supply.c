@@ -7,7 +7,7 @@
 #include <stdio.h>
 #include <string.h>
 
-enum { NOT_ACCEPTED = 3, RESUBMITTED = 4, CORRECTIVE = 9, STOPPED = 3, SEVERITIES = 4 };
+enum { NOT_ACCEPTED = 3, RESUBMITTED = 4, CORRECTIVE = 9, REDUCED = 2, STOPPED = 3, SEVERITIES = 4 };
 
 static struct call call;
 static struct answer answer;
@@ -17,6 +17,9 @@ static unsigned long changes[SEVERITIES][SEVERITIES], bytes;
 /* How the clean run went on: on its plan or with none, and by a change of plan. */
 enum { RUNS = 3 };
 static unsigned long runs[RUNS][RUNS], changed_plan[RUNS];
+
+/* Original curtailed lots by their verdict, and those of them that ended a clean run. */
+static unsigned long curtailed[2], ended_runs[2];
 
 /* The Ac one column tighter than a normal Ac of 2 or more: the number before it in the row of the table. */
 static unsigned tighter(unsigned ac) {
@@ -50,7 +53,10 @@ static uint8_t lot_byte(void) {
     return answer.accepted == 1 ? accepted_byte() : NOT_ACCEPTED;
 }
 
-/* How a supply goes for a while: a bad lot in so many, a staged lot in so many, of the others one in the old mode. */
+/*
+ * How a supply goes for a while: a bad lot in so many, a staged lot in so many, of the others one in the old mode, half
+ * of which are curtailed.
+ */
 struct phase {
     unsigned left, bad_in, staged_in, old_in;
 };
@@ -71,14 +77,24 @@ static uint32_t draw_event(void) {
 }
 
 /* Judging the lot first, on the same record, says what closing it said, and moves nothing. */
-static void hold_judged(void) {
+static void hold_judged(enum function judge) {
+    enum function closing = call.function;
     struct answer judged;
-    call.function = FRACTIONAL;
+    call.function = judge;
     if (run_both(&call, &judged) != 0 || judged.accepted != answer.accepted || judged.used != answer.used)
         report("judging a lot says what closing it says", &call);
     if (memcmp(judged.record, call.record, RECORD) != 0)
         report("judging a lot moves nothing", &call);
-    call.function = CLOSE_FRACTIONAL;
+    call.function = closing;
+}
+
+/* Under reduced few curtailed lots are tried, since each is refused. */
+static enum function draw_closing(const struct phase *phase) {
+    if (one_in(phase->staged_in))
+        return CLOSE_STAGED;
+    if (!one_in(phase->old_in))
+        return CLOSE_FRACTIONAL;
+    return one_in(call.record[0] == REDUCED ? 20 : 2) ? CLOSE_CURTAILED : CLOSE_SINGLE;
 }
 
 /* Closes a lot, or moves the record by an order or by a lot that was judged elsewhere. */
@@ -88,13 +104,15 @@ static uint64_t next_event(const struct phase *phase) {
         call.event = draw_event();
         return run_both(&call, &answer);
     }
-    call.function = one_in(phase->staged_in) ? CLOSE_STAGED : one_in(phase->old_in) ? CLOSE_SINGLE : CLOSE_FRACTIONAL;
+    call.function = draw_closing(phase);
     draw_next_lot(&call, !one_in(phase->bad_in));
     uint64_t status = run_both(&call, &answer);
     if (status == 0 && answer.byte != lot_byte())
         report("the history byte is not what the lot is", &call);
     if (status == 0 && call.function == CLOSE_FRACTIONAL)
-        hold_judged();
+        hold_judged(FRACTIONAL);
+    if (status == 0 && call.function == CLOSE_CURTAILED)
+        hold_judged(CURTAILED);
     return status;
 }
 
@@ -106,6 +124,10 @@ static void count_change(void) {
         changed_plan[before]++;
     else
         runs[before][after]++;
+    if (call.function == CLOSE_CURTAILED && call.resubmitted == 0) {
+        curtailed[answer.accepted & 1]++;
+        ended_runs[answer.accepted & 1] += before > 0;
+    }
 }
 
 /* The written reading refuses the same byte for the same reason. A lot that is refused is any lot. */
@@ -181,9 +203,17 @@ static bool summary_of_runs(void) {
     return ok;
 }
 
+static bool summary_of_curtailed_lots(void) {
+    bool ok = curtailed[0] != 0 && curtailed[1] != 0 && ended_runs[0] + ended_runs[1] != 0;
+    printf("curtailed lots: %lu accepted, %lu not; of these %lu and %lu ended a clean run%s\n", curtailed[1],
+           curtailed[0], ended_runs[1], ended_runs[0], ok ? "" : "  SOMETHING NEVER OCCURRED");
+    return ok;
+}
+
 bool long_supplies(unsigned supplies, unsigned events) {
     for (unsigned i = 0; i < supplies && events < SAMPLE_ROOM; i++)
         long_supply(events);
     bool ok = summary_of_changes();
-    return summary_of_runs() && ok;
+    ok = summary_of_runs() && ok;
+    return summary_of_curtailed_lots() && ok;
 }

@@ -67,6 +67,8 @@ static enum function function_of(char kind) {
         return CLOSE_SINGLE;
     case 's':
         return CLOSE_STAGED;
+    case 'c':
+        return CLOSE_CURTAILED;
     case 'q':
         return SEQUENTIAL;
     case 'v':
@@ -78,19 +80,19 @@ static enum function function_of(char kind) {
     }
 }
 
-/* How many items the lot's plan takes: a staged sample goes on to the second stage after a bad item. */
+/* How many items the plan takes: staged goes on after a bad item, curtailed ends with the one that is too many. */
 static unsigned items_for(const struct call *c, unsigned bad) {
     uint8_t letter, share;
-    uint16_t n = 0, ac;
+    uint16_t n = 0, ac = 0;
     if (c->function == SEQUENTIAL)
         return 1;
     if (c->function == CLOSE_STAGED)
         return bad > 0 ? 2 : 1;
-    if (c->function == CLOSE_SINGLE)
+    if (c->function == CLOSE_SINGLE || c->function == CLOSE_CURTAILED)
         ref_plan(c->size, c->level, c->column, c->record[0], c->book, c->book_len, &letter, &n, &ac);
     else
         ref_fractional_plan(c->size, c->level, c->column, c->record[0], c->book, c->book_len, &letter, &n, &ac, &share);
-    return n;
+    return c->function == CLOSE_CURTAILED && bad > ac ? ac + 1u : n;
 }
 
 /* The first items are bad; of two readings that are alike, bad ones are above the limit. */

@@ -4,7 +4,8 @@
  *   F'1   the same at AQL 1.5
  *   f1    the same, of another size and level that have the letter
  *   oF1   closed in the old mode        sF1   closed by stages
- *   rF1, roF1, rsF1   resubmitted
+ *   cF1   closed in the old mode, curtailed
+ *   rF1, roF1, rsF1, rcF1   resubmitted
  *   qF1   judged on a sequential plan   vF1   judged on a variables plan
  *   b3    entered as history byte 3, with no sample
  * Letters are E to J. Their own boxes at AQL 1.0 and 1.5:

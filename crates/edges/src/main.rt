@@ -1,6 +1,7 @@
 // Every case of document 01's 'Worked at the edges' run through the public entries, each printed with its answer, and
-// cases of document 02, T-01 to T-03. (lotlog's listing is run by the program lotlog.)
+// cases of document 02, T-01 to T-04. (lotlog's listing is run by the program lotlog.)
 mod books;
+mod curtailed;
 mod fractions;
 mod stages;
 
@@ -417,4 +418,5 @@ fn main() {
     fractions::all();
     stages::all();
     books::all();
+    curtailed::all();
 }

@@ -16,7 +16,7 @@ const STAGES: [u8; 66] =
     \x01\0\x01\0\x01\0\0\0\x05\0\x01\0\x05\0\x02\0\x05\0\x03\0\x05\0\x04\0\x05\0\0\0\0\0";
 
 // A record under normal inspection.
-fn scored(score: u8, standing: bool) -> Supply {
+pub(crate) fn scored(score: u8, standing: bool) -> Supply {
     let mut old = supply::fresh(severity::ours());
     old.switching.score = score;
     old.switching.steady = standing;
@@ -24,7 +24,7 @@ fn scored(score: u8, standing: bool) -> Supply {
     old
 }
 
-fn say_closed(answer: ClosedAnswer) {
+pub(crate) fn say_closed(answer: ClosedAnswer) {
     match answer {
         ClosedAnswer::Refused(number, place) => say_refusal(number, place),
         ClosedAnswer::Given(closed) => {

@@ -1,5 +1,6 @@
 -- Demands 2 and 3, each sentence a named theorem.
 -- Assumes nothing.
+pub mod Curtailed
 pub mod Fractional
 pub mod Three
 pub mod Two

@@ -8,6 +8,7 @@ pub mod Bytes
 pub mod Cases
 pub mod Checks
 pub mod CleanRuns
+pub mod Curtailing
 pub mod Decimals
 pub mod Deciding
 pub mod Demands
@@ -19,6 +20,7 @@ pub mod Feeding
 pub mod FewKeys
 pub mod FractionRuns
 pub mod Fractions
+pub mod FullCount
 pub mod GivenPlans
 pub mod HeldPlans
 pub mod HeldStaged
@@ -62,6 +64,7 @@ pub mod Walks
 pub mod Window
 pub mod Worked
 pub mod WorkedBooks
+pub mod WorkedCurtailed
 pub mod WorkedFractions
 pub mod WorkedRows
 pub mod Written

@@ -54,6 +54,14 @@ numbers-take (a ∷ []) (suc n) =
     let z : 2 * suc n ≡ suc (suc (2 * n)) = twice-suc n in rw (z, take-nil (suc (2 * n)))
 numbers-take (a ∷ b ∷ r) (suc n) = let z : 2 * suc n ≡ suc (suc (2 * n)) = twice-suc n in rw (z, numbers-take r n)
 
+-- whole pairs of bytes before others
+pub numbers-append : (b c : List ℕ) → length b ≡ 2 * length (numbersOf b)
+    → numbersOf (b ++ c) ≡ numbersOf b ++ numbersOf c
+unfolding numbersOf
+numbers-append [] c e = refl
+numbers-append (x ∷ []) c e = absurd (omega arith)
+numbers-append (x ∷ y ∷ b) c e = ap (λ (l : List ℕ). (x + 256 * y) ∷ l) (numbers-append b c (omega arith))
+
 -- of the part of a slice from a place to its end
 pub numbers-part : (b : List ℕ) (i : ℕ) → numbersOf (take (length b - 2 * i) (drop (2 * i) b)) ≡ drop i (numbersOf b)
 numbers-part b i =

@@ -62,7 +62,7 @@ walk column half say (p ∷ ps) part used total items =
     afterPart half (takeItems column (p .size) total items) p (say (suc part) (used + p .size))
     (walk column half say ps (suc part) (used + p .size))
 
-ended-so : (half : Bool) (rest : List ℕ) (v w : Verdict) → ended half rest v ≡ given w
+pub ended-so : (half : Bool) (rest : List ℕ) (v w : Verdict) → ended half rest v ≡ given w
     → (half ≡ false) × (rest ≡ []) × (v ≡ w)
 ended-so true [] v w e = absurd (refused-given e)
 ended-so false [] v w e = (refl, refl, given-one e)

@@ -24,10 +24,10 @@ use Rattle.rules.specs.History.{Work, ours, byteEvents, eventOf, eventIn
 use Rattle.rules.specs.History.{after, past}
 use Rattle.rules.specs.Entries.{Asked, Closed, Offered, eventFor, singleEvent, stagedEvent}
 use Rattle.rules.specs.Entries.{fractionalEvent, onSupply, moved, next}
-use Rattle.rules.specs.Entries.{closeSingle, closeStaged, closeTotal}
+use Rattle.rules.specs.Entries.{closeSingle, closeCurtailed, closeStaged, closeTotal}
 use Rattle.rules.specs.Entries.{closeFractional, originOf, singleCounts, stagedCounts, asSingle}
-use Rattle.rules.specs.Runs.{Call, single, fractional, staged, total, byte, sequential, variables, Entered}
-use Rattle.rules.specs.Runs.{enters}
+use Rattle.rules.specs.Runs.{Call, single, curtailed, fractional, staged, total, byte, sequential, variables}
+use Rattle.rules.specs.Runs.{Entered, enters}
 use Rattle.rules.specs.Runs.{nothing, enteredBy, enteredAs, entered, isResubmission, withoutResubmissions}
 use Rattle.rules.specs.Runs.{supplyBy, eventsBy, ran}
 use Rattle.rules.specs.Planning.{Closes, Took}
@@ -39,6 +39,7 @@ use Rattle.rules.proofs.Resubmitted.{is-resubmitted}
 use Rattle.rules.proofs.Moving.{typed-counts, corrective-counts, counts-again}
 use Rattle.rules.proofs.Supplies.{took-range, fresh-supply-range, resubmitted-took}
 use Rattle.rules.proofs.CleanRuns.{clean-fresh, clean-one-event}
+use Rattle.rules.proofs.Demands.Curtailed.{close-curtailed-given}
 use Rattle.rules.proofs.Demands.Fractional.{close-fractional-given}
 use Rattle.rules.proofs.Demands.Two.{close-single-given, close-staged-given, close-total-given, moved-given}
 use Rattle.rules.proofs.Bytes.{lot-byte, corrective-byte}
@@ -65,6 +66,11 @@ module _ (w : Work) (cs : List Call) where
       → ClosesLot w cs (single o book sample) (closeSingle (ran w cs) o book sample)
   unfolding entered
   single-closes o book sample = call-closes (single o book sample) _ refl
+
+  pub curtailed-closes : (o : Offered) (book sample : List ℕ)
+      → ClosesLot w cs (curtailed o book sample) (closeCurtailed (ran w cs) o book sample)
+  unfolding entered
+  curtailed-closes o book sample = call-closes (curtailed o book sample) _ refl
 
   pub fractional-closes : (o : Offered) (book sample : List ℕ)
       → ClosesLot w cs (fractional o book sample) (closeFractional (ran w cs) o book sample)
@@ -135,6 +141,7 @@ module _ (P : Event → Type 0) (s : Supply) where
 -- the events that a call may stand for
 abbrev Stands : (Event → Type 0) → Work → Call → Type 0
 Stands P w (single o book sample) = (l : Lot) → P (eventFor o sampled l)
+Stands P w (curtailed o book sample) = (l : Lot) → P (eventFor o sampled l)
 Stands P w (fractional o book sample) = (from : Origin) (l : Lot) → P (eventFor o from l)
 Stands P w (staged o book sample) = (l : Lot) → P (eventFor o sampled l)
 Stands P w (total o d) = (l : Lot) → P (eventFor o sampled l)
@@ -148,6 +155,10 @@ unfolding entered next
 call-enters P w s (single o book sample) p =
     closed-enters P s (closeSingle s o book sample) _ (singleEvent (s .switching) o)
     (λ c q. close-single-given s o book sample c .0 q)
+    (λ j. p (singleCounts (s .switching) o j))
+call-enters P w s (curtailed o book sample) p =
+    closed-enters P s (closeCurtailed s o book sample) _ (singleEvent (s .switching) o)
+    (λ c q. close-curtailed-given s o book sample c .0 q)
     (λ j. p (singleCounts (s .switching) o j))
 call-enters P w s (fractional o book sample) p =
     closed-enters P s (closeFractional s o book sample) _ (fractionalEvent (s .switching) o)
@@ -170,6 +181,7 @@ call-enters P w s (variables upper q book limit readings) p = tt
 
 anything : (w : Work) (c : Call) → Stands (λ e. Unit {0}) w c
 anything w (single o book sample) = λ l. tt
+anything w (curtailed o book sample) = λ l. tt
 anything w (fractional o book sample) = λ from l. tt
 anything w (staged o book sample) = λ l. tt
 anything w (total o d) = λ l. tt
@@ -206,6 +218,15 @@ ran-clean w (c ∷ cs) =
     go h (enters e t) k =
         clean-one-event (w .permission) e (eventsRan w cs) (ran w cs) t (ran-agrees w cs) h (k .0)
     go h nothing k = h
+
+-- Runs that come to the same go on alike.
+pub later-alike : (w : Work) (later cs ds : List Call) → ran w cs ≡ ran w ds → eventsRan w cs ≡ eventsRan w ds
+    → (ran w (later ++ cs) ≡ ran w (later ++ ds)) × (eventsRan w (later ++ cs) ≡ eventsRan w (later ++ ds))
+unfolding ran eventsRan
+later-alike w [] cs ds e f = (e, f)
+later-alike w (c ∷ later) cs ds e f =
+    let x = later-alike w later cs ds e f in
+    (rw (x .0), rw (x .0, x .1))
 
 -- Both together: the supply is the one that the written reading finds.
 pub ran-as-read : (w : Work) (cs : List Call) → ran w cs ≡ supplyRead (w .permission) (eventsRan w cs)
@@ -280,6 +301,7 @@ ran-agrees-bytes w cs = after-typed (fresh (w .permission)) (eventsRan w cs) ∙
 -- a call with a resubmitted lot stands for nothing else
 resubmission : (w : Work) (c : Call) → isResubmission w c ≡ true → Stands (λ e. e ≡ resubmitted) w c
 resubmission w (single o book sample) h = λ l. rw h
+resubmission w (curtailed o book sample) h = λ l. rw h
 resubmission w (fractional o book sample) h = λ from l. rw h
 resubmission w (staged o book sample) h = λ l. rw h
 resubmission w (total o d) h = λ l. rw h
@@ -321,6 +343,7 @@ not-corrective o from l h = go (o .again) (ap byteOf h)
 
 corrective-call : (w : Work) (c : Call) → Stands (λ e. e ≡ corrective → Corrects c) w c
 corrective-call w (single o book sample) = λ l h. absurd (not-corrective o sampled l h)
+corrective-call w (curtailed o book sample) = λ l h. absurd (not-corrective o sampled l h)
 corrective-call w (fractional o book sample) = λ from l h. absurd (not-corrective o from l h)
 corrective-call w (staged o book sample) = λ l h. absurd (not-corrective o sampled l h)
 corrective-call w (total o d) = λ l h. absurd (not-corrective o sampled l h)
@@ -376,6 +399,7 @@ call-enters-as w c cs = enters-one (EntersAs w c) w c cs (labels c)
 
     labels : (c : Call) → Stands (EntersAs w c) w c
     labels (single o book sample) = sampled-so o
+    labels (curtailed o book sample) = sampled-so o
     labels (fractional o book sample) = λ from l. tt
     labels (staged o book sample) = sampled-so o
     labels (total o d) = sampled-so o

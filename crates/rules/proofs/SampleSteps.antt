@@ -14,6 +14,8 @@ use Rattle.rules.specs.Refusals.{refused, given, wrongLength, illegalIte
 use Rattle.rules.specs.Numbers.{numbersOf, halfLeft}
 use Rattle.rules.specs.Codes.{illegal}
 use Rattle.rules.specs.Verdict.{Verdict, Decision, accepts, rejects, goesOn, ended, decided}
+use Rattle.rules.specs.Single.{Plan}
+use Rattle.rules.specs.Curtailed.{verdictAfter, curtailedFrom, judgeUntilLost}
 use Rattle.rules.specs.Sequential.{SequentialPlan, itemDecides, sequentialFrom, sequentialVerdict}
 use Rattle.rules.specs.Sequential.{judgeSequence}
 use Rattle.rules.specs.Staged.{StagedPlan, stageAt, stagesFrom, stageDecides, Taken, missing, over, taken}
@@ -86,6 +88,49 @@ goes-before p n d e = go (ltb n (p .nt)) (leb d (p .atNt)) _ refl e
     go true t x f h = ltb-true n (p .nt) f
     go false true x f h = let z : _≡_ {A = ℕ} 0 1 = cc in omega arith
     go false false x f h = let z : _≡_ {A = ℕ} 0 1 = cc in omega arith
+
+-- A curtailed walk has come to the item at place i, with total t.
+pub record CurtailedAt (column : ℕ) (p : Plan) (s : List ℕ) (i t : ℕ) : Type 0 where
+  pub walk : judgeUntilLost column p s ≡ curtailedFrom column p (halfLeft s) (p .n - i) i t (drop i (numbersOf s))
+
+pub curtailed-start : (column : ℕ) (p : Plan) (s : List ℕ) → CurtailedAt column p s 0 0
+unfolding judgeUntilLost
+curtailed-start column p s = let e : p .n - 0 ≡ p .n = omega arith in record { walk = rw e }
+
+module _ {column : ℕ} {p : Plan} {s : List ℕ} {i t : ℕ} (w : CurtailedAt column p s i t) where
+  pub curtailed-done : p .n ≤ i
+      → judgeUntilLost column p s ≡ ended (halfLeft s) (drop i (numbersOf s)) (verdictAfter p i t)
+  unfolding curtailedFrom
+  curtailed-done h = let e : p .n - i ≡ 0 = omega arith in w .walk ∙ rw e
+
+  module _ (more : i < p .n) where
+    item-less : p .n - i ≡ suc (p .n - (i + 1))
+    item-less = omega arith
+
+    pub curtailed-missing : length (numbersOf s) ≤ i → judgeUntilLost column p s ≡ refused wrongLength 0
+    unfolding curtailedFrom
+    curtailed-missing h = w .walk ∙ rw (drop-of-length-le (numbersOf s) h, item-less)
+
+    module _ (there : i < length (numbersOf s)) {x : ℕ} (is : x ≡ getD (numbersOf s) i 0) where
+      pub curtailed-over : illegal column x ≡ true → judgeUntilLost column p s ≡ refused illegalItem 0
+      unfolding curtailedFrom
+      curtailed-over e = w .walk ∙ rw (items-next (numbersOf s) i x is there, item-less, e)
+
+      pub curtailed-lost : illegal column x ≡ false → p .ac < t + x
+          → judgeUntilLost column p s
+          ≡ ended (halfLeft s) (drop (i + 1) (numbersOf s)) (verdictAfter p (i + 1) (t + x))
+      unfolding curtailedFrom
+      curtailed-lost e h =
+          w .walk ∙ rw (items-next (numbersOf s) i x is there, item-less, e, lt-ltb (p .ac) (t + x) h, add-one i)
+
+      pub curtailed-goes : illegal column x ≡ false → t + x ≤ p .ac → CurtailedAt column p s (i + 1) (t + x)
+      unfolding curtailedFrom
+      curtailed-goes e h =
+          record {
+            walk =
+                w .walk
+                ∙ rw (items-next (numbersOf s) i x is there, item-less, e, le-ltb (p .ac) (t + x) h, add-one i);
+          }
 
 -- Taking k items from place f on has come to place i, with total t.
 pub record TakingAt (column k total f : ℕ) (ws : List ℕ) (i t : ℕ) : Type 0 where

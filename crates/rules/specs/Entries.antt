@@ -9,6 +9,7 @@ use Rattle.rules.specs.Refusals.{noSuchColumn, whileStopped, noPlan, ill
 use Rattle.rules.specs.Codes.{reduced, stopped, countsItems, lotChecks, letterOf}
 use Rattle.rules.specs.Verdict.{Verdict, Judged}
 use Rattle.rules.specs.Single.{Plan, cutTo, tablePlan, tighterAc, singleVerdict, judgeItems}
+use Rattle.rules.specs.Curtailed.{judgeUntilLost}
 use Rattle.rules.specs.Staged.{StagedPlan, stagesOf, totalSize, judgeStages}
 use Rattle.rules.specs.Sequential.{SequentialPlan, judgeSequence}
 use Rattle.rules.specs.Variables.{VariablesPlan, judgeReadings}
@@ -25,6 +26,9 @@ use Rattle.rules.specs.Numbers.{numbersOf}
 -- A sample judged on a plan that is handed over. Every plan of these kinds has a verdict or a refusal of its own.
 unfoldable pub singleSample : ℕ → Plan → List ℕ → Answer Verdict
 singleSample column plan bytes = firstOf ((ltb 25 column gives noSuchColumn) ∷ []) (judgeItems column plan bytes)
+
+unfoldable pub curtailedSample : ℕ → Plan → List ℕ → Answer Verdict
+curtailedSample column plan bytes = firstOf ((ltb 25 column gives noSuchColumn) ∷ []) (judgeUntilLost column plan bytes)
 
 unfoldable pub stagedSample : ℕ → StagedPlan → List ℕ → Answer Verdict
 stagedSample column plan bytes = firstOf ((ltb 25 column gives noSuchColumn) ∷ []) (judgeStages column plan bytes)
@@ -103,6 +107,11 @@ plainPlan q =
     firstOf (askedChecks q ++ ((eqb (q .severity) reduced gives noPlan) ∷ []))
     (given (tablePlan (q .severity) (q .size) (q .level) (q .column)))
 
+-- document 02, T-04: "for normal or tightened single sampling with a whole Ac"; "with 6 under reduced", whatever the
+-- book has
+unfoldable pub curtailedPlan : Asked → List ℕ → Answer Plan
+curtailedPlan q book = onSound (checkBook book) (plainPlan q)
+
 -- the mode of fractional acceptance numbers: the box at the lot's own Table 1 letter; "6 when the column is over 15 and
 -- the box is fractional"; where it is no fraction, the plan as ever
 abbrev pub inFractions : Asked → Plan → Answer FractionalPlan
@@ -149,9 +158,13 @@ lettered q a = andThen a (λ p. given (record { letter = letterOf (q .size) (q .
 abbrev pub judgedOn : {P Outcome : Type 0} → (P → Answer Outcome) → P → Answer (Judged P Outcome)
 judgedOn judge plan = andThen (judge plan) (λ v. given (record { plan = plan; verdict = v }))
 
--- judge_single, judge_staged, judge_sequential, judge_variables
+-- judge_single, judge_curtailed, judge_staged, judge_sequential, judge_variables
 unfoldable pub judgeSingle : Asked → List ℕ → List ℕ → Answer (Judged Plan Verdict)
 judgeSingle q book sample = andThen (singlePlan q book) (judgedOn (λ plan. judgeItems (q .column) plan sample))
+
+unfoldable pub judgeCurtailed : Asked → List ℕ → List ℕ → Answer (Judged Plan Verdict)
+judgeCurtailed q book sample =
+    andThen (curtailedPlan q book) (judgedOn (λ plan. judgeUntilLost (q .column) plan sample))
 
 unfoldable pub judgeStaged : Asked → List ℕ → List ℕ → Answer (Judged StagedPlan Verdict)
 judgeStaged q book sample = andThen (stagedPlan q book) (judgedOn (λ plan. judgeStages (q .column) plan sample))
@@ -213,12 +226,20 @@ stagedEvent r o j = eventFor o sampled (stagedCounts r o j)
 abbrev pub closedWith : {P : Type 0} → Supply → (Judged P Verdict → Event) → Judged P Verdict → Answer (Closed P)
 closedWith s event j = andThen (move s (event j)) (λ t. given (record { judged = j; event = event j; supplyAfter = t }))
 
--- close_single, close_staged: "12 first", then a record out of range, then as the lot is judged at the present severity
+-- close_single, close_curtailed, close_staged: "12 first", then a record out of range, then as the lot is judged at the
+-- present severity
 unfoldable pub closeSingle : Supply → Offered → List ℕ → List ℕ → Answer (Closed Plan)
 closeSingle s o book sample =
     onSound (checkBook book)
     (onSupply s
     (andThen (judgeSingle (askedOn (s .switching) o) book sample) (closedWith s (singleEvent (s .switching) o))))
+
+-- "the next record" is that of a lot on a single plan
+unfoldable pub closeCurtailed : Supply → Offered → List ℕ → List ℕ → Answer (Closed Plan)
+closeCurtailed s o book sample =
+    onSound (checkBook book)
+    (onSupply s
+    (andThen (judgeCurtailed (askedOn (s .switching) o) book sample) (closedWith s (singleEvent (s .switching) o))))
 
 unfoldable pub closeStaged : Supply → Offered → List ℕ → List ℕ → Answer (Closed StagedPlan)
 closeStaged s o book sample =

@@ -2,9 +2,9 @@
 -- the others are refused. Definitions only.
 use Prim.Native.Nat.{ℕ, suc, _*_, _≤_, _<_}
 use mathlib.Core.Path.{_≡_}
-use mathlib.Core.Logic.{_↔_}
+use mathlib.Core.Logic.{_↔_, _⊎_}
 use mathlib.Core.Bool.{Bool, true, false, cond}
-use mathlib.Core.List.{List}
+use mathlib.Core.List.{List, _++_}
 use lib.Dec.{leb}
 use lib.IntN.{ℤ, pos}
 use lib.ListN.{length, getD, take}
@@ -47,6 +47,81 @@ pub record ItemsJudged (column : ℕ) (sample : List ℕ) (plan : Plan) (v : Ver
         stages = 1;
       }
       ≡ v
+
+-- Document 02, T-04: of these items the first k are read. "stops at the item where the total passes Ac": no earlier
+-- item is one, and "The sample lent ends at the deciding item, or at n."
+pub record StopsAfter (column : ℕ) (plan : Plan) (items : List ℕ) (k : ℕ) : Type 0 where
+  pub there : k ≤ length items
+  pub within : k ≤ plan .n
+  pub legal : anyIllegal column (take k items) ≡ false
+  pub earlier : (i : ℕ) → i < k → sumOf (take i items) ≤ plan .ac
+  pub ends : (plan .ac < sumOf (take k items)) ⊎ (k ≡ plan .n)
+
+-- A curtailed sample is all read, and its verdict. "its items used .. are the items read"
+pub record Curtailed (column : ℕ) (sample : List ℕ) (plan : Plan) (v : Verdict) : Type 0 where
+  pub whole : length sample ≡ 2 * length (numbersOf sample)
+  pub stops : StopsAfter column plan (numbersOf sample) (length (numbersOf sample))
+  pub verdict :
+      record {
+        accepted = leb (sumOf (numbersOf sample)) (plan .ac);
+        used = length (numbersOf sample);
+        total = sumOf (numbersOf sample);
+        stage = 1;
+        stages = 1;
+      }
+      ≡ v
+
+-- "7 when the sample ends before", at an item that is missing or half there, "or goes on past its end", were it by half
+-- an item.
+pub data WrongEnd (column : ℕ) (plan : Plan) (sample : List ℕ) : Type 0 where
+  ends-before : length (numbersOf sample) < plan .n → anyIllegal column (numbersOf sample) ≡ false
+      → sumOf (numbersOf sample) ≤ plan .ac → WrongEnd column plan sample
+  goes-past : (k : ℕ) → StopsAfter column plan (numbersOf sample) k → 2 * k < length sample
+      → WrongEnd column plan sample
+
+-- The walk meets an illegal item: it is the first, and the items before it do not end the sample. No sample has both a
+-- wrong end and such an item, so that the lowest number is the one that is met first.
+pub record MeetsIllegal (column : ℕ) (plan : Plan) (items : List ℕ) : Type 0 where
+  pub place : ℕ
+  pub there : place < length items
+  pub reached : place < plan .n
+  pub legal-before : anyIllegal column (take place items) ≡ false
+  pub illegal-there : illegal column (getD items place 0) ≡ true
+  pub undecided : sumOf (take place items) ≤ plan .ac
+
+abbrev pub CurtailedRows : ℕ → List ℕ → Plan → ℕ → Type 0
+CurtailedRows column sample plan =
+    Row 7 (WrongEnd column plan sample) (Row 8 (MeetsIllegal column plan (numbersOf sample)) NoRow)
+
+-- "every legal full sample that begins so"
+pub record Begins (sample full : List ℕ) : Type 0 where
+  pub rest : List ℕ
+  pub joined : sample ++ rest ≡ full
+
+pub record LegalFull (column : ℕ) (plan : Plan) (full : List ℕ) : Type 0 where
+  pub whole : length full ≡ 2 * plan .n
+  pub legal : IllegalAt column (numbersOf full) → ⊥
+
+-- "Accepted or not .. equal those of the full count"; "the score needs the total", and an accepted sample has the full
+-- count's whole verdict.
+pub record SameVerdict (curtailed full : Verdict) : Type 0 where
+  pub same-accepted : curtailed .accepted ≡ full .accepted
+  pub same-when-accepted : curtailed .accepted ≡ true → curtailed ≡ full
+
+-- "its items used .. are the items read: the deciding item, or n when accepted. It must not stop early to accept": in a
+-- full sample that begins so, no item before the last of them passes Ac, and of a lost lot that one does.
+pub record UsedAs (plan : Plan) (sample full : List ℕ) (v : Verdict) : Type 0 where
+  pub read : length sample ≡ 2 * v .used
+  pub n-when-accepted : v .accepted ≡ true → v .used ≡ plan .n
+  pub deciding : v .accepted ≡ false → plan .ac < sumOf (take (v .used) (numbersOf full))
+  pub none-earlier : (i : ℕ) → i < v .used → sumOf (take i (numbersOf full)) ≤ plan .ac
+
+-- One beginning of a full sample, and no other, is answered.
+pub record OneBeginning (Answered : List ℕ → Type 0) (full : List ℕ) : Type 0 where
+  pub sample : List ℕ
+  pub begins : Begins sample full
+  pub is-answered : Answered sample
+  pub no-other : (other : List ℕ) → Begins other full → Answered other → other ≡ sample
 
 -- A staged or sequential sample: 8 for an illegal item that a walk meets; 7 where it meets none and there is no
 -- verdict.

@@ -10,6 +10,7 @@ pub mod Sequential
 pub mod Variables
 pub mod Screen
 pub mod Severity
+pub mod Curtailed
 pub mod Fractional
 pub mod Supply
 pub mod History

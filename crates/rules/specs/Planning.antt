@@ -21,8 +21,8 @@ use Rattle.rules.specs.History.{Work, eventIn, after, past}
 use Rattle.rules.specs.Book.{sound, checkBook, found, nothing, stagedOf, sequentialOf, variablesOf}
 use Rattle.rules.specs.Entries.{Asked, lookedUp, reducedSection, stagedSection, sequentialSection}
 use Rattle.rules.specs.Entries.{variablesSection, plainPlan, singlePlan, Closed, Offered, askedOn}
-use Rattle.rules.specs.Entries.{fractionalPlan}
-use Rattle.rules.specs.Judging.{ItemRows}
+use Rattle.rules.specs.Entries.{fractionalPlan, curtailedPlan}
+use Rattle.rules.specs.Judging.{ItemRows, CurtailedRows, SameVerdict}
 use Rattle.rules.specs.Reporting.{Row, NoRow, Then}
 
 -- 1 to 5, "of every entry that judges or plans a lot", and then its own rows.
@@ -116,6 +116,25 @@ pub record TotalJudged (q : Asked) (total : ℕ) (j : Judged Plan Verdict) : Typ
   pub verdict :
       record { accepted = leb total (j .plan .ac); used = j .plan .n; total = total; stage = 1; stages = 1 }
       ≡ j .verdict
+
+-- Document 02, T-04: the tables' plan, beside a sound book. "with 6 under reduced", as on a bench without one.
+pub record CurtailedPlanned (q : Asked) (book : List ℕ) (plan : Plan) : Type 0 where
+  pub book-sound : checkBook book ≡ sound
+  pub planned : PlainPlanned q plan
+
+abbrev pub CurtailedLotRows : Asked → List ℕ → List ℕ → ℕ → Type 0
+CurtailedLotRows q book sample =
+    Then (PlainPlanRows q) (curtailedPlan q book) (CurtailedRows (q .column) sample)
+
+-- "Accepted or not, and the next record, equal those of the full count": so do the plan and the event.
+pub record SameJudged (curtailed full : Judged Plan Verdict) : Type 0 where
+  pub same-plan : curtailed .plan ≡ full .plan
+  pub verdicts : SameVerdict (curtailed .verdict) (full .verdict)
+
+pub record SameClosed (curtailed full : Closed Plan) : Type 0 where
+  pub judged-alike : SameJudged (curtailed .judged) (full .judged)
+  pub same-event : curtailed .event ≡ full .event
+  pub same-record : curtailed .supplyAfter ≡ full .supplyAfter
 
 -- What it means that a supply took an event, which counts as it stands: each part by its own step.
 pub record Took (s : Supply) (e : Event) (t : Supply) : Type 0 where

@@ -29,11 +29,12 @@ abbrev pub whileStopped : ℕ
 whileStopped = 5
 
 -- 6: no book entry under the key, or a staged total, nt or variables n above the lot size; in the mode of document 02,
--- T-01, a fractional box at a column over 15; by T-03 no such entry to read
+-- T-01, a fractional box at a column over 15; by T-03 no such entry to read; by T-04 a curtailed sample under reduced
 abbrev pub noPlan : ℕ
 noPlan = 6
 
--- 7: sample of wrong length; for the screen, 0 or over 50 readings
+-- 7: sample of wrong length; for the screen, 0 or over 50 readings; by document 02, T-04, a curtailed sample that ends
+-- before or goes on past its end
 abbrev pub wrongLength : ℕ
 wrongLength = 7
 

@@ -14,12 +14,13 @@ use Rattle.rules.specs.Reading.{isResubmitted, severityRead}
 use Rattle.rules.specs.CleanReading.{supplyRead}
 use Rattle.rules.specs.History.{Work, eventIn, byteOf}
 use Rattle.rules.specs.Entries.{Asked, Offered, Closed, closeSingle, closeStaged, closeTotal, closeFractional}
-use Rattle.rules.specs.Entries.{moved, next}
+use Rattle.rules.specs.Entries.{closeCurtailed, moved, next}
 
--- A call: a lot closed from its sample, in the old mode or in that of fractions, or by its total; a history byte, which
--- is an order or a lot; an event handed to close_lot; a sequential or variables verdict in between.
+-- A call: a lot closed from its sample, in full, curtailed, in the mode of fractions or in stages, or by its total; a
+-- history byte, which is an order or a lot; an event handed to close_lot; a sequential or variables verdict in between.
 pub data Call : Type 0 where
   single : Offered → List ℕ → List ℕ → Call
+  curtailed : Offered → List ℕ → List ℕ → Call
   fractional : Offered → List ℕ → List ℕ → Call
   staged : Offered → List ℕ → List ℕ → Call
   total : Offered → ℕ → Call
@@ -44,6 +45,7 @@ enteredAs e (given r) = enters e r
 -- "Sequential and variables verdicts don't enter the record"
 unfoldable pub entered : Work → Supply → Call → Entered
 entered w s (single o book sample) = enteredBy (closeSingle s o book sample)
+entered w s (curtailed o book sample) = enteredBy (closeCurtailed s o book sample)
 entered w s (fractional o book sample) = enteredBy (closeFractional s o book sample)
 entered w s (staged o book sample) = enteredBy (closeStaged s o book sample)
 entered w s (total o d) = enteredBy (closeTotal s o d)
@@ -55,6 +57,7 @@ entered w s (variables upper q book limit readings) = nothing
 -- a call that closes or types a resubmitted lot
 abbrev pub isResubmission : Work → Call → Bool
 isResubmission w (single o book sample) = o .again
+isResubmission w (curtailed o book sample) = o .again
 isResubmission w (fractional o book sample) = o .again
 isResubmission w (staged o book sample) = o .again
 isResubmission w (total o d) = o .again
@@ -108,6 +111,7 @@ SampledOrAgain e = (e ≡ resubmitted) ⊎ ((l : Lot) × (e ≡ lot sampled l))
 
 abbrev pub EntersAs : Work → Call → Event → Type 0
 EntersAs w (single o book sample) e = SampledOrAgain e
+EntersAs w (curtailed o book sample) e = SampledOrAgain e
 EntersAs w (fractional o book sample) e = Unit {0}
 EntersAs w (staged o book sample) e = SampledOrAgain e
 EntersAs w (total o d) e = SampledOrAgain e

@@ -2,11 +2,13 @@
 ghost use mathlib.Core.Path.{_≡_};
 ghost use Prim.Native.Nat.{_+_, _*_, _≤_, _<_};
 ghost use lib.ListN.{length, drop, getD};
-ghost use Rattle.rules.specs.Numbers.{numbersOf};
+ghost use Rattle.rules.specs.Numbers.{numbersOf, halfLeft};
 ghost use Rattle.rules.specs.Codes.{illegal};
+ghost use Rattle.rules.specs.Verdict.{ended};
+ghost use Rattle.rules.specs.Curtailed.{verdictAfter, judgeUntilLost};
 ghost use Rattle.rules.specs.Staged.{takeItems, stageAt, stageDecides, judgeStages};
 ghost use Rattle.rules.specs.Sequential.{onAcceptLine, onRejectLine, itemDecides, judgeSequence};
-ghost use Rattle.rules.specs.Entries.{singleSample, stagedSample};
+ghost use Rattle.rules.specs.Entries.{singleSample, curtailedSample, stagedSample};
 ghost use Rattle.samples.specs.Paper.{decisionPaper, endedAfter, takenPaper, takenTotal, stagePaper};
 ghost use Rattle.plans.specs.Paper.{planPaper, verdictAnswer};
 ghost use Rattle.entry.specs.Paper.{stagedPaper, sequentialPaper};
@@ -162,6 +164,59 @@ pub fn single_sample(column: u32, plan: SinglePlan, sample: &[u8]) -> VerdictAns
             stages: 1,
         }),
     }
+}
+
+// The verdict on the items read, with their total, where the sample ends with them.
+fn stopped_after(plan: SinglePlan, sample: &[u8], read: usize, total: u64) -> VerdictAnswer
+    requires { ⌜ (read ≤ length (numbersOf (now sample))) × (read < 65536) ⌝ }
+    ensures { λ r. ⌜ verdictAnswer r
+        ≡ ended (halfLeft (now (sample .entry))) (drop read (numbersOf (now (sample .entry))))
+        (verdictAfter (planPaper plan) read total) ⌝ }
+{
+    let v = Verdict {
+        accepted: total <= plan.ac as u64,
+        used: read as u32,
+        total,
+        stage: 1,
+        stages: 1,
+    };
+    ended_with(sample, v)
+}
+
+// "stops at the item where the total passes Ac", else at n: each item is read once.
+fn curtailed_walk(column: u32, plan: SinglePlan, sample: &[u8]) -> VerdictAnswer
+    ensures { λ r. ⌜ verdictAnswer r ≡ judgeUntilLost column (planPaper plan) (now (sample .entry)) ⌝ }
+{
+    let have = numbers::count(sample);
+    let n = plan.n as usize;
+    let ac = plan.ac as u64;
+    let mut i = 0;
+    let mut total = 0;
+    while i < n {
+        if have <= i {
+            return VerdictAnswer::Refused(plans::WRONG_LENGTH, 0);
+        }
+        let item = numbers::number(sample, i);
+        if is_illegal(column, item) {
+            return VerdictAnswer::Refused(plans::ILLEGAL_ITEM, 0);
+        }
+        total += item;
+        i += 1;
+        if ac < total {
+            return stopped_after(plan, sample, i, total);
+        }
+    }
+    stopped_after(plan, sample, i, total)
+}
+
+// A curtailed sample: 4, then 7 or 8 as the walk meets it, then the verdict; any plan is judged.
+pub fn curtailed_sample(column: u32, plan: SinglePlan, sample: &[u8]) -> VerdictAnswer
+    ensures { λ r. ⌜ verdictAnswer r ≡ curtailedSample column (planPaper plan) (now (sample .entry)) ⌝ }
+{
+    if plans::LAST_COLUMN < column {
+        return VerdictAnswer::Refused(plans::NO_SUCH_COLUMN, 0);
+    }
+    curtailed_walk(column, plan, sample)
 }
 
 // As Ac it means no acceptance at that stage.

@@ -14,11 +14,12 @@ use Rattle.rules.specs.Fractional.{FractionalPlan, planOfShare, fractionAccepts
 use Rattle.rules.specs.Fractional.{judgeByShare}
 use Rattle.rules.specs.Supply.{Supply, runOn, supplyInRange}
 use Rattle.rules.specs.Book.{Checked, sound, brokenAt, checkBook, onSound}
-use Rattle.rules.specs.Entries.{Asked, singlePlan, plainPlan, singleSample, inFractions, fractionalPlan}
+use Rattle.rules.specs.Entries.{Asked, singlePlan, plainPlan, curtailedPlan, singleSample, inFractions, fractionalPlan}
 use Rattle.rules.specs.Entries.{judgedOn, Offered, askedOn, eventFor, singleCounts, onSupply, closedWith, Closed}
 use Rattle.rules.specs.Entries.{judgeFractional, originOf, fractionalEvent, closeFractional}
 use Rattle.rules.specs.Planning.{onPlan}
 use Rattle.rules.proofs.Fractions.{judged-exactly, reduced-plan}
+use Rattle.rules.proofs.Demands.Curtailed.{curtailed-as-single}
 use Rattle.rules.proofs.Demands.Fractional.{fractional-plan-given}
 use Rattle.plans.specs.declared.Outcome.{Outcome}
 use Rattle.plans.specs.declared.Outcome.the-variants as outcomes
@@ -36,7 +37,6 @@ use Rattle.book.specs.declared.BookAnswer.{BookAnswer}
 use Rattle.book.specs.declared.BookAnswer.the-variants as books
 use Rattle.book.specs.Paper.{bookPaper}
 use Rattle.rules.proofs.EntryLaws.{broken-first, sound-first}
-use Rattle.sentencing.proofs.Supplies.{table-planned}
 use Rattle.sentencing.proofs.Verdicts.{single-refused, single-given, judged-refused, judged-given}
 use Rattle.sentencing.proofs.Verdicts.{items-in-column, checked, fractional-checked, out-of-range}
 
@@ -65,9 +65,9 @@ module _ (q : Asked) (book : List ℕ) (x : Beside FractionalPlan FractionalPlan
   module _ (other : q .severity ≡ 2 → ⊥) (b : BookAnswer)
       (h : bookPaper b ≡ onSound (checkBook book) (given tt)) where
     tables : onSound (checkBook book) (andThen (plainPlan q) (inFractions q)) ≡ fractionalPlan q book
-    unfolding fractionalPlan
+    unfolding fractionalPlan curtailedPlan
     tables =
-        onward (checkBook book) ∙ ap (λ (a : Answer Plan). andThen a (inFractions q)) (sym (table-planned q book other))
+        onward (checkBook book) ∙ ap (λ (a : Answer Plan). andThen a (inFractions q)) (curtailed-as-single q book other)
       where
         onward : (c : Checked)
             → onSound c (andThen (plainPlan q) (inFractions q)) ≡ andThen (onSound c (plainPlan q)) (inFractions q)

@@ -4,7 +4,7 @@
 use Prim.Native.Nat.{ℕ, _≤_, _<_}
 use mathlib.Core.Path.{_≡_, refl, sym, ap, _∙_}
 use mathlib.Core.List.{List}
-use borrow.Author.Tests.{ne-eqb, eq-eqb, lt-ltb, le-ltb}
+use borrow.Author.Tests.{eq-eqb, lt-ltb, le-ltb}
 use lib.ListN.{length, drop}
 use Rattle.rules.specs.Refusals.{Answer, refused, given, firstOf, andThen}
 use Rattle.rules.specs.Codes.{letterOf}
@@ -14,7 +14,7 @@ use Rattle.rules.specs.Book.{Checked, sound, brokenAt, checkBook, onSound, kind
 use Rattle.rules.specs.Book.{ReducedSingle, reducedOf}
 use Rattle.rules.specs.Layout.{entryOf}
 use Rattle.rules.specs.Entries.{Asked, askedChecks, askedLetter, lookedUp, fromEntry, unlessAbove, Lettered, lettered}
-use Rattle.rules.specs.Entries.{reducedPlan, singlePlan, plainPlan}
+use Rattle.rules.specs.Entries.{reducedPlan, singlePlan}
 use Rattle.rules.proofs.Answers.{refused-then, given-one, then-given}
 use Rattle.rules.proofs.Checks.{checks-alike, asked-kept, asked-passed, asked-letter}
 use Rattle.rules.proofs.EntryLaws.{lot-passes, lot-given, sound-given}
@@ -162,9 +162,3 @@ reduced-given q book known s l p e held h n cut =
     (given (reducedPlan q (entryOf reducedSingles (drop p (numbersOf book))))) =
     rw (cut, h, x .letter) in
     told ∙ sym (reduced-supplied q book known s ∙ x .is)
-
--- "12 first", and then the tables' plan
-pub table-planned : (q : Asked) (book : List ℕ) → (q .severity ≡ 2 → ⊥)
-    → singlePlan q book ≡ onSound (checkBook book) (plainPlan q)
-unfolding singlePlan plainPlan
-table-planned q book s = rw (ne-eqb (q .severity) 2 s)

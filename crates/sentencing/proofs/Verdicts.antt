@@ -13,14 +13,16 @@ use Rattle.rules.specs.Severity.{Event}
 use Rattle.rules.specs.Supply.{Supply, supplyInRange}
 use Rattle.rules.specs.Book.{Checked, sound, brokenAt, checkBook, onSound}
 use Rattle.rules.specs.Single.{Plan, judgeItems}
+use Rattle.rules.specs.Curtailed.{judgeUntilLost}
 use Rattle.rules.specs.Staged.{StagedPlan, judgeStages}
 use Rattle.rules.specs.Variables.{VariablesPlan, judgeReadings}
 use Rattle.rules.specs.Entries.{Asked, judgedOn, singlePlan, fractionalPlan, stagedPlan, variablesPlan, Lettered}
 use Rattle.rules.specs.Entries.{lettered, singleSample, stagedSample, variablesSample, judgeSingle, judgeStaged}
 use Rattle.rules.specs.Entries.{Offered, askedOn, onSupply, Closed, closedWith, singleEvent, stagedEvent, closeSingle}
-use Rattle.rules.specs.Entries.{closeStaged}
+use Rattle.rules.specs.Entries.{closeStaged, curtailedPlan, curtailedSample, judgeCurtailed, closeCurtailed}
 use Rattle.rules.proofs.Answers.{refused-given, given-one}
 use Rattle.rules.proofs.Demands.Two.{single-plan-given, staged-plan-given}
+use Rattle.rules.proofs.Demands.Curtailed.{curtailed-plan-given}
 use Rattle.rules.proofs.GivenPlans.{variables-given}
 use Rattle.plans.specs.declared.Outcome.{Outcome}
 use Rattle.plans.specs.declared.Outcome.the-variants as outcomes
@@ -96,6 +98,13 @@ module _ (q : Asked) (book sample : List ℕ) where
       → singleSample (q .column) p sample ≡ judgeItems (q .column) p sample
   single-sample p h = items-in-column (q .column) p sample (single-plan-given q book p .0 h .lot .column)
 
+  pub curtailed-sample : (p : Plan) → curtailedPlan q book ≡ given p
+      → curtailedSample (q .column) p sample ≡ judgeUntilLost (q .column) p sample
+  unfolding curtailedSample
+  curtailed-sample p h =
+      let lot = curtailed-plan-given q book p .0 h .planned .lot in
+      rw (le-ltb 25 (q .column) (omega (arith, lot .column)))
+
   pub staged-sample : (p : StagedPlan) → stagedPlan q book ≡ given p
       → stagedSample (q .column) p sample ≡ judgeStages (q .column) p sample
   unfolding stagedSample
@@ -118,6 +127,10 @@ module _ (q : Asked) (book sample : List ℕ) where
   pub single-checked : judgeSingle q book sample ≡ onSound (checkBook book) (judgeSingle q book sample)
   unfolding judgeSingle singlePlan
   single-checked = sym (checked-once (checkBook book) _ _)
+
+  pub curtailed-checked : judgeCurtailed q book sample ≡ onSound (checkBook book) (judgeCurtailed q book sample)
+  unfolding judgeCurtailed curtailedPlan
+  curtailed-checked = sym (checked-once (checkBook book) _ _)
 
   pub staged-checked : judgeStaged q book sample ≡ onSound (checkBook book) (judgeStaged q book sample)
   unfolding judgeStaged stagedPlan
@@ -175,6 +188,24 @@ module _ (s : Supply) (o : Offered) (book sample : List ℕ) (t : Bool) (range :
     unfolding closeSingle
     single-out m k e first z =
         closes-out zeroPlan s o book (λ q. judgeSingle q book sample) _ t range x m k e first z
+
+    pub curtailed-closed : (q : Asked) (b : Beside Plan (Judged Plan Verdict)) → t ≡ true
+        → q ≡ askedOn (s .switching) o → b ≡ beside zeroPlan planJudged (judgeCurtailed q book sample)
+        → x ≡ beside zeroPlan planClosed
+        (andThen (b .answer) (λ j. onSupply s (closedWith s (singleEvent (s .switching) o) j)))
+        → x ≡ beside zeroPlan planClosed (closeCurtailed s o book sample)
+    unfolding closeCurtailed
+    curtailed-closed q b e asked judged k =
+        closes zeroPlan s o book (λ q. judgeCurtailed q book sample) _ t range x q b e asked judged
+        (curtailed-checked q book sample) k
+
+    pub curtailed-out : (m k : ℕ) → t ≡ false
+        → _≡_ {A = Answer (Unit {0})} (refused m k) (onSound (checkBook book) (refused 1 0))
+        → x ≡ beside zeroPlan planClosed (refused m k)
+        → x ≡ beside zeroPlan planClosed (closeCurtailed s o book sample)
+    unfolding closeCurtailed
+    curtailed-out m k e first z =
+        closes-out zeroPlan s o book (λ q. judgeCurtailed q book sample) _ t range x m k e first z
 
   module _ (x : Beside StagedPlan (Closed StagedPlan)) where
     pub staged-closed : (q : Asked) (b : Beside StagedPlan (Judged StagedPlan Verdict)) → t ≡ true

@@ -1,7 +1,7 @@
 // What next: a lot closed from its sample, with the next record; beside it the plan, all 0 beside a refusal.
 ghost use mathlib.Core.Path.{_≡_};
 ghost use Rattle.rules.specs.Refusals.{andThen};
-ghost use Rattle.rules.specs.Entries.{onSupply, closedWith, stagedEvent, closeSingle, closeStaged};
+ghost use Rattle.rules.specs.Entries.{onSupply, closedWith, stagedEvent, closeSingle, closeCurtailed, closeStaged};
 ghost use Rattle.plans.specs.Paper.{beside, zeroPlan};
 ghost use Rattle.entry.specs.Paper.{stagedPaper, noStages};
 ghost use Rattle.severity.specs.Paper.{recordPaper};
@@ -9,6 +9,7 @@ ghost use Rattle.supply.specs.Paper.{supplyPaper};
 ghost use Rattle.closing.specs.Paper.{offeredPaper, closedOn, closedBeside, planClosed};
 ghost use Rattle.sentencing.specs.Paper.{stagedJudged, stagedClosed};
 use super::judging::StagedJudged;
+use super::judging::judge_curtailed;
 use super::judging::judge_single;
 use super::judging::judge_staged;
 use super::planning::first_refusal;
@@ -28,6 +29,20 @@ pub fn close_single(old: Supply, lot: Offered, book: &[u8], sample: &[u8]) -> Si
 {
     if supply::in_range(old) {
         let judged = judge_single(closing::asked_on(old, lot), book, sample);
+        return closing::take_single(old, lot, judged);
+    }
+    let first = first_refusal(book, UNKNOWN_FORM, 0);
+    closing::unclosed(first.number, first.place)
+}
+
+// A lot closed from a curtailed sample.
+pub fn close_curtailed(old: Supply, lot: Offered, book: &[u8], sample: &[u8]) -> SingleClosed
+    ensures { λ r. ⌜ closedBeside r
+        ≡ beside zeroPlan planClosed
+        (closeCurtailed (supplyPaper old) (offeredPaper lot) (now (book .entry)) (now (sample .entry))) ⌝ }
+{
+    if supply::in_range(old) {
+        let judged = judge_curtailed(closing::asked_on(old, lot), book, sample);
         return closing::take_single(old, lot, judged);
     }
     let first = first_refusal(book, UNKNOWN_FORM, 0);

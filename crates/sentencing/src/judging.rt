@@ -1,12 +1,13 @@
 // Does the lot pass: the verdict on a sample, beside the plan that it was judged on; all of the plan is 0 beside a
 // refusal.
 ghost use mathlib.Core.Path.{_≡_};
-ghost use Rattle.rules.specs.Entries.{judgeSingle, judgeStaged, judgeSequential, judgeVariables};
+ghost use Rattle.rules.specs.Entries.{judgeSingle, judgeCurtailed, judgeStaged, judgeSequential, judgeVariables};
 ghost use Rattle.plans.specs.Paper.{askedPaper, planPaper, beside, zeroPlan, verdictOn};
 ghost use Rattle.entry.specs.Paper.{stagedPaper, noStages, sequentialPaper, variablesPaper};
 ghost use Rattle.closing.specs.Paper.{judgedBeside, planJudged};
 ghost use Rattle.sentencing.specs.Paper.{zeroSequential, zeroVariables};
 ghost use Rattle.sentencing.specs.Paper.{stagedJudged, sequentialJudged, variablesJudged};
+use super::planning::from_tables;
 use super::planning::no_readings;
 use super::planning::no_sequence;
 use super::planning::sequential_plan;
@@ -52,6 +53,24 @@ pub fn judge_single(lot: Asked, book: &[u8], sample: &[u8]) -> SingleJudged
             VerdictAnswer::Refused(number, place),
         ),
         Outcome::Given => single_judged(plan, samples::single_sample(lot.column, plan, sample)),
+    }
+}
+
+// The verdict on a curtailed sample: it ends at the item where its total passes Ac, or at n.
+pub fn judge_curtailed(lot: Asked, book: &[u8], sample: &[u8]) -> SingleJudged
+    ensures { λ r. ⌜ judgedBeside r
+        ≡ beside zeroPlan planJudged
+        (judgeCurtailed (askedPaper lot) (now (book .entry)) (now (sample .entry))) ⌝ }
+{
+    let planned = from_tables(lot, book);
+    let answer = planned.answer;
+    let plan = planned.plan;
+    match answer {
+        Outcome::Refused(number, place) => single_judged(
+            plan,
+            VerdictAnswer::Refused(number, place),
+        ),
+        Outcome::Given => single_judged(plan, samples::curtailed_sample(lot.column, plan, sample)),
     }
 }
 

@@ -5,7 +5,7 @@ ghost use Rattle.rules.specs.Refusals.{refused};
 ghost use Rattle.rules.specs.Codes.{reduced};
 ghost use Rattle.rules.specs.Staged.{stagesOf, totalSize};
 ghost use Rattle.rules.specs.Book.{checkBook, onSound};
-ghost use Rattle.rules.specs.Entries.{singlePlan, stagedPlan, sequentialPlan, variablesPlan, lettered};
+ghost use Rattle.rules.specs.Entries.{singlePlan, curtailedPlan, stagedPlan, sequentialPlan, variablesPlan, lettered};
 ghost use Rattle.plans.specs.Paper.{askedPaper, beside, itself, zeroPlan, plannedPaper};
 ghost use Rattle.entry.specs.Paper.{stagedPaper, noStages, sequentialPaper, variablesPaper};
 ghost use Rattle.sentencing.specs.Paper.{refusalPaper, suppliedPaper, placeFor, withoutLetter};
@@ -95,6 +95,17 @@ fn reduced_plan(lot: Asked, book: &[u8]) -> SinglePlanned
     }
 }
 
+// The tables' plan, which every curtailed sample is judged on: "12 first", and 6 under reduced.
+pub(crate) fn from_tables(lot: Asked, book: &[u8]) -> SinglePlanned
+    ensures { λ r. ⌜ plannedPaper r
+        ≡ beside zeroPlan itself (curtailedPlan (askedPaper lot) (now (book .entry))) ⌝ }
+{
+    match book::check_book(book) {
+        BookAnswer::Refused(number, byte) => plans::unplanned(number, byte),
+        BookAnswer::Sound => plans::table_plan(lot),
+    }
+}
+
 // The single plan of a lot.
 pub fn single_plan(lot: Asked, book: &[u8]) -> SinglePlanned
     ensures { λ r. ⌜ plannedPaper r
@@ -103,10 +114,7 @@ pub fn single_plan(lot: Asked, book: &[u8]) -> SinglePlanned
     if lot.severity == REDUCED {
         return reduced_plan(lot, book);
     }
-    match book::check_book(book) {
-        BookAnswer::Refused(number, byte) => plans::unplanned(number, byte),
-        BookAnswer::Sound => plans::table_plan(lot),
-    }
+    from_tables(lot, book)
 }
 
 // Is there a plan that only a book supplies; beside it the lot's Table 1 letter and the plan, all 0 beside a refusal.

@@ -20,6 +20,7 @@ use Rattle.rules.specs.Variables.{VariablesPlan}
 use Rattle.rules.specs.Book.{Walk, ends, broken, short, sound, brokenAt, Checked, checkedAs, checkBook, sections, kinds}
 use Rattle.rules.specs.Entries.{Asked, judgeSingle, judgeStaged, judgeSequential, judgeVariables, Closed, Offered}
 use Rattle.rules.specs.Entries.{askedOn, closeSingle, closeStaged, judgeFractional, closeFractional}
+use Rattle.rules.specs.Entries.{singlePlan, judgeCurtailed, closeCurtailed}
 use Rattle.rules.specs.Fractional.{FractionalPlan}
 use Rattle.rules.specs.Supply.{Supply, supplyInRange}
 use Rattle.rules.specs.Terminal.{recordBytes, supplyIn}
@@ -43,6 +44,7 @@ use Rattle.rules.proofs.Deciding.{never-past}
 use Rattle.rules.proofs.LookUp.{broken-unsound}
 use Rattle.rules.proofs.GivenPlans.{single-given, fractional-given, staged-given, sequential-given, variables-given}
 use Rattle.rules.proofs.Demands.Two as two
+use Rattle.rules.proofs.Demands.Curtailed as curtailed
 use Rattle.rules.proofs.Demands.Fractional as fractions
 use Rattle.terminal.proofs.Lending.{in-range-length}
 
@@ -128,6 +130,19 @@ module _ (q : Asked) (book sample : List ℕ) where
       → VerdictFits (verdictAnswer v)
   single-fits = verdict-fits book (two.judge-single-refused q book sample) single-used
 
+  -- of a curtailed sample, the items read
+  curtailed-used : (j : Judged Plan Verdict) → judgeCurtailed q book sample ≡ given j → j .verdict .used ≤ 14000
+  curtailed-used j e =
+      let g = curtailed.judge-curtailed-given q book sample j .0 e in
+      let u : length (numbersOf sample) ≡ j .verdict .used = ap (λ (v : Verdict). v .used) (g .1 .verdict) in
+      let plain = curtailed.curtailed-plan-given q book (j .plan) .0 (g .0) .planned .not-reduced in
+      let p : singlePlan q book ≡ given (j .plan) = sym (curtailed.curtailed-as-single q book plain) ∙ g .0 in
+      omega (arith, g .1 .stops .within, single-given q book (j .plan) p .few)
+
+  pub curtailed-fits : (v : VerdictAnswer) (plan : Plan) → verdictOn v plan ≡ judgeCurtailed q book sample
+      → VerdictFits (verdictAnswer v)
+  curtailed-fits = verdict-fits book (curtailed.judge-curtailed-refused q book sample) curtailed-used
+
   -- the first k stages from the i-th have 2,000 items each or fewer
   stages-size : (p : StagedPlan) → StagedRight p → (k i : ℕ) → i + k ≤ p .stages
       → totalSize (stagesFrom k i p) ≤ 2000 * k
@@ -202,6 +217,14 @@ module _ (bytes : List ℕ) (o : Offered) (book sample : List ℕ) where
       (λ c e.
       let k = two.close-single-given (supplyIn bytes) o book sample c .0 e in
       (k .in-range, single-used (askedOn (supplyIn bytes .switching) o) book sample (c .judged) (k .as-judged)))
+
+  pub curtailed-closes : (v : ClosedAnswer) (plan : Plan)
+      → closedOn v plan ≡ closeCurtailed (supplyIn bytes) o book sample → ClosedFits (closedPaper v) bytes
+  curtailed-closes =
+      closed-fits bytes book (curtailed.close-curtailed-refused (supplyIn bytes) o book sample)
+      (λ c e.
+      let k = curtailed.close-curtailed-given (supplyIn bytes) o book sample c .0 e in
+      (k .in-range, curtailed-used (askedOn (supplyIn bytes .switching) o) book sample (c .judged) (k .as-judged)))
 
   pub staged-closes : (v : ClosedAnswer) (plan : StagedPlan)
       → closedOn v plan ≡ closeStaged (supplyIn bytes) o book sample → ClosedFits (closedPaper v) bytes

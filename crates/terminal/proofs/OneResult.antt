@@ -81,7 +81,7 @@ variables-plan-one c d = (
   one (c .k-left) (d .k-left),
 )
 
--- of hm_single, hm_staged, hm_sequential, hm_fractional, and hm_variables_upper and _lower
+-- of hm_single, hm_curtailed, hm_staged, hm_sequential, hm_fractional, and hm_variables_upper and _lower
 pub verdict-one : {A : Type 0} {verdictOf : A → Verdict} {a : Answer A} {b u r b₁ u₁ s b₂ u₂ : ℕ}
     → OutcomeLeft verdictOf a r b b₁ u u₁ → OutcomeLeft verdictOf a s b b₂ u u₂ → (r ≡ s) × (b₁ ≡ b₂) × (u₁ ≡ u₂)
 verdict-one c d = (
@@ -90,7 +90,7 @@ verdict-one c d = (
   one (c .used-left) (d .used-left),
 )
 
--- of hm_close_single, hm_close_staged and hm_close_fractional
+-- of hm_close_single, hm_close_curtailed, hm_close_staged and hm_close_fractional
 pub closed-one : {P : Type 0} {a : Answer (Closed P)} {m m₁ m₂ : List ℕ} {b u k r b₁ u₁ k₁ s b₂ u₂ k₂ : ℕ}
     → ClosedLeft a r m m₁ b b₁ u u₁ k k₁ → ClosedLeft a s m m₂ b b₂ u u₂ k k₂
     → ((r ≡ s) × (b₁ ≡ b₂) × (u₁ ≡ u₂)) × (m₁ ≡ m₂) × (k₁ ≡ k₂)

@@ -1,7 +1,7 @@
 // The verdict on a sample: accepted or not, and the items or readings used; and the screen.
 ghost use mathlib.Core.Bool.{true, false};
 ghost use Rattle.rules.specs.Screen.{screen};
-ghost use Rattle.rules.specs.Entries.{judgeSingle, judgeStaged, judgeSequential, judgeVariables};
+ghost use Rattle.rules.specs.Entries.{judgeSingle, judgeCurtailed, judgeStaged, judgeSequential, judgeVariables};
 ghost use Rattle.terminal.specs.Lent.{asked, VerdictLeft, ScreenLeft};
 use super::telling::status;
 use super::telling::tell_verdict;
@@ -32,6 +32,34 @@ pub extern "C" fn hm_single(
         column,
     };
     let judged = sentencing::judge_single(lot, book, sample);
+    let answer = judged.answer;
+    tell_verdict(answer, accepted, used)
+}
+
+// The verdict on a curtailed sample: it ends at the item where its total passes Ac, or at n.
+#[no_mangle]
+pub extern "C" fn hm_curtailed(
+    size: u32,
+    level: u32,
+    column: u32,
+    severity: u32,
+    book: &[u8],
+    sample: &[u8],
+    accepted: &mut u8,
+    used: &mut u16,
+) -> u32
+    ensures { λ r. ⌜ VerdictLeft
+        (judgeCurtailed (asked severity size level column) (now (book .entry)) (now (sample .entry))) r
+        (now (accepted .entry)) (now (accepted .exit))
+        (now (used .entry)) (now (used .exit)) ⌝ }
+{
+    let lot = Asked {
+        severity,
+        size,
+        level,
+        column,
+    };
+    let judged = sentencing::judge_curtailed(lot, book, sample);
     let answer = judged.answer;
     tell_verdict(answer, accepted, used)
 }

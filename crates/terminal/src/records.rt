@@ -1,7 +1,7 @@
 // A supply's record in lent bytes: what a history byte or a lot makes of it, and the severities of a history.
 ghost use mathlib.Core.Path.{_≡_};
 ghost use Rattle.rules.specs.History.{ours};
-ghost use Rattle.rules.specs.Entries.{next, closeSingle, closeStaged, judgeFractional, closeFractional};
+ghost use Rattle.rules.specs.Entries.{next, closeSingle, closeCurtailed, closeStaged, judgeFractional, closeFractional};
 ghost use Rattle.rules.specs.Terminal.{supplyIn};
 ghost use Rattle.terminal.specs.Lent.{offered, once, again, VerdictLeft, ClosedLeft, NextLeft, ListLeft};
 use super::telling::put_back;
@@ -60,6 +60,40 @@ pub extern "C" fn hm_close_single(
         column,
     };
     let closed = sentencing::close_single(old, lot, book, sample);
+    let answer = closed.answer;
+    tell_closed(answer, supply, accepted, used, byte)
+}
+
+// A lot closed from a curtailed sample; `resubmitted` 0 is an original lot.
+#[no_mangle]
+pub extern "C" fn hm_close_curtailed(
+    supply: &mut [u8],
+    resubmitted: u32,
+    size: u32,
+    level: u32,
+    column: u32,
+    book: &[u8],
+    sample: &[u8],
+    accepted: &mut u8,
+    used: &mut u16,
+    byte: &mut u8,
+) -> u32
+    ensures { λ r. ⌜ ClosedLeft
+        (closeCurtailed (supplyIn (now (supply .entry))) (offered (again resubmitted) size level column)
+        (now (book .entry)) (now (sample .entry))) r
+        (now (supply .entry)) (now (supply .exit))
+        (now (accepted .entry)) (now (accepted .exit))
+        (now (used .entry)) (now (used .exit))
+        (now (byte .entry)) (now (byte .exit)) ⌝ }
+{
+    let old = take_up(supply);
+    let lot = Offered {
+        again: resubmitted != 0,
+        size,
+        level,
+        column,
+    };
+    let closed = sentencing::close_curtailed(old, lot, book, sample);
     let answer = closed.answer;
     tell_closed(answer, supply, accepted, used, byte)
 }

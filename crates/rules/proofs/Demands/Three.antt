@@ -1,7 +1,7 @@
 -- Demand 3, each sentence a theorem, of histories and of runs of calls; what a run records; by what each severity is
--- left; and of document 02, fractions and the points of staged lots. A history is its events, newest first; those of a
--- history of bytes are `past w h (length h)`, the bytes' events turned round (`past-whole`). A run starts from a fresh
--- record, and refused calls are dropped. For any permission at the start, and any work.
+-- left; and of document 02, fractions, the points of staged lots and curtailed samples. A history is its events, newest
+-- first; those of a history of bytes are `past w h (length h)`, the bytes' events turned round (`past-whole`). A run
+-- starts from a fresh record, and refused calls are dropped. For any permission at the start, and any work.
 -- Assumes nothing.
 use Prim.Native.Nat.{ℕ, suc}
 use mathlib.Core.Path.{_≡_, sym, ap, _∙_}
@@ -18,6 +18,7 @@ use Rattle.rules.specs.Severity.{Lot, Origin, typed, lot}
 use Rattle.rules.specs.Severity.{Event, resubmitted, corrective, Record, fresh, step, inRange}
 use Rattle.rules.specs.Supply.{Supply, freshSupply, countsOn, supplyInRange}
 use Rattle.rules.specs.CleanReading.{originsIn, allOrigins, presentLots, supplyRead}
+use Rattle.rules.specs.Single.{Plan}
 use Rattle.rules.specs.Staged.{StagedPlan}
 use Rattle.rules.specs.Fractional.{FractionalPlan}
 use Rattle.rules.specs.Reading.{severityRead, recordRead, staysIn, isResubmitted}
@@ -25,11 +26,13 @@ use Rattle.rules.specs.Reading.{withoutResubmitted, severitiesAt, steady
 use Rattle.rules.specs.History.{Work, knows, eventOf, eventIn, afterFrom, after, past, afterHistory, withoutFours}
 use Rattle.rules.specs.Entries.{Closed, askedOn, stagedCounts}
 use Rattle.rules.specs.Scoring.{EntersByStage}
+use Rattle.rules.specs.Judging.{Begins, LegalFull}
 use Rattle.rules.specs.Entries.{Asked, Offered, closeSingle, closeStaged, closeFractional}
+use Rattle.rules.specs.Entries.{closeCurtailed, judgeCurtailed}
 use Rattle.rules.specs.Entries.{closeTotal, next, moved, judgeSingle, judgeStaged, judgeTotal, judgeFractional}
-use Rattle.rules.specs.Runs.{Call, single, fractional, staged, total, byte, sequential, variables, entered}
-use Rattle.rules.specs.Runs.{isResubmission, withoutResubmissions, supplyBy, ran, eventsRan, bytesRan, event}
-use Rattle.rules.specs.Runs.{eventsRead, EntersAs, Corrects, Idle, Records, ClosesLot, ByCall, askedAt}
+use Rattle.rules.specs.Runs.{Call, single, curtailed, fractional, staged, total, byte, sequential, variables}
+use Rattle.rules.specs.Runs.{entered, isResubmission, withoutResubmissions, supplyBy, ran, eventsRan, bytesRan}
+use Rattle.rules.specs.Runs.{event, eventsRead, EntersAs, Corrects, Idle, Records, ClosesLot, ByCall, askedAt}
 use Rattle.rules.specs.Runs.{AskedAsRead}
 use Rattle.rules.specs.LogRuns.{callsAfter, heldFrom}
 use Rattle.rules.specs.Switching.{AcceptedAfter, FractionCounts, Every, AtMost25, Whole, NormalLeft}
@@ -37,6 +40,7 @@ use Rattle.rules.specs.Switching.{TightenedLeft, ReducedLeft}
 use Rattle.rules.specs.Switching.{ReducedStarts}
 use Rattle.rules.proofs.Demands.Two.{close-single-given, close-staged-given, close-total-given}
 use Rattle.rules.proofs.Demands.Two.{judge-staged-given}
+use Rattle.rules.proofs.Demands.Curtailed.{close-curtailed-given, close-curtailed-as-full}
 use Rattle.rules.proofs.GivenPlans.{staged-given}
 use Rattle.rules.proofs.Points.{staged-counts}
 use Rattle.rules.proofs.Range.{step-range, after-range}
@@ -53,7 +57,7 @@ use Rattle.rules.proofs.Bytes.{corrective-byte, past-more, past-whole, 
 use Rattle.rules.proofs.Runs.{ran-agrees, ran-as-read, ran-agrees-bytes, ran-resubmitted, ran-without, one-call}
 use Rattle.rules.proofs.Runs.{by-call}
 use Rattle.rules.proofs.Runs.{call-range, ran-range, ran-corrected, events-as-read, single-closes, staged-closes}
-use Rattle.rules.proofs.Runs.{fractional-closes, call-enters-as}
+use Rattle.rules.proofs.Runs.{curtailed-closes, fractional-closes, call-enters-as, later-alike}
 use Rattle.rules.proofs.Runs.{total-closes, byte-records, event-records, sequential-idle, variables-idle}
 
 -- 1. The record folded over any history not refused has the severity of the written reading, and all its figures.
@@ -80,6 +84,10 @@ module _ (w : Work) (cs : List Call) where
   pub run-closes-single : (o : Offered) (book sample : List ℕ)
       → ClosesLot w cs (single o book sample) (closeSingle (ran w cs) o book sample)
   run-closes-single o book sample = single-closes w cs o book sample
+
+  pub run-closes-curtailed : (o : Offered) (book sample : List ℕ)
+      → ClosesLot w cs (curtailed o book sample) (closeCurtailed (ran w cs) o book sample)
+  run-closes-curtailed o book sample = curtailed-closes w cs o book sample
 
   pub run-closes-fractional : (o : Offered) (book sample : List ℕ)
       → ClosesLot w cs (fractional o book sample) (closeFractional (ran w cs) o book sample)
@@ -156,6 +164,12 @@ module _ (w : Work) (cs : List Call) (o : Offered) where
   single-asked-as-read book sample c g =
       as-read (λ q. judgeSingle q book sample) (c .judged)
       (close-single-given (ran w cs) o book sample c .0 g .as-judged)
+
+  pub curtailed-asked-as-read : (book sample : List ℕ)
+      → AskedAsRead w cs o (closeCurtailed (ran w cs) o book sample) (λ q. judgeCurtailed q book sample)
+  curtailed-asked-as-read book sample c g =
+      as-read (λ q. judgeCurtailed q book sample) (c .judged)
+      (close-curtailed-given (ran w cs) o book sample c .0 g .as-judged)
 
   pub staged-asked-as-read : (book sample : List ℕ)
       → AskedAsRead w cs o (closeStaged (ran w cs) o book sample) (λ q. judgeStaged q book sample)
@@ -413,3 +427,19 @@ pub run-counts-stages : (w : Work) (cs : List Call) (o : Offered) (book sample :
     → EntersByStage (severityRead (w .permission) (eventsRan w cs)) c
 run-counts-stages w cs o book sample c g a =
     rw (← run-severity w cs) (closed-by-stage (ran w cs) o book sample c g a)
+
+-- 9. Curtailed samples in a run. Document 02, T-04: "Accepted or not, and the next record, equal those of the full
+-- count on every legal full sample that begins so": with that sample counted in full in its place, and whatever comes
+-- later, the run leaves the same record, and so the same severities.
+pub run-curtailed-as-full : (w : Work) (later cs : List Call) (o : Offered) (book sample full : List ℕ)
+    → Begins sample full → (c : Closed Plan) → closeCurtailed (ran w cs) o book sample ≡ given c
+    → LegalFull (o .column) (c .judged .plan) full
+    → (ran w (later ++ (curtailed o book sample ∷ cs)) ≡ ran w (later ++ (single o book full ∷ cs)))
+    × (eventsRan w (later ++ (curtailed o book sample ∷ cs)) ≡ eventsRan w (later ++ (single o book full ∷ cs)))
+run-curtailed-as-full w later cs o book sample full b c g f =
+    let d = close-curtailed-as-full (ran w cs) o book sample full b c g f in
+    let x = curtailed-closes w cs o book sample .recorded c g in
+    let y = single-closes w cs o book full .recorded (d .0) (d .1) in
+    later-alike w later (curtailed o book sample ∷ cs) (single o book full ∷ cs)
+    (x .0 ∙ d .2 .same-record ∙ sym (y .0))
+    (x .1 ∙ ap (λ (e : Event). e ∷ eventsRan w cs) (d .2 .same-event) ∙ sym (y .1))

@@ -486,11 +486,11 @@ module _ (bytes : List ℕ) where
 
 -- 8. A sample judged on a plan that is handed over: 4 for a column over 25 where the column says which items are legal,
 -- 6 for a variables plan that no sound book could hold.
-column-reports : {A : Type 0} {more : ℕ → Type 0} {rest : Answer A} (column : ℕ) → Reports 7 more rest
+pub column-reports : {A : Type 0} {more : ℕ → Type 0} {rest : Answer A} (column : ℕ) → Reports 7 more rest
     → Reports 4 (Row 4 (25 < column) more) (cond (ltb 25 column) (refused 4 0) rest)
 column-reports column r = check 4 (ltb 25 column) (ltb-true 25 column) (lt-ltb 25 column) (omega arith) r
 
-column-given : {A : Type 0} (column : ℕ) (rest : Answer A) (x : A)
+pub column-given : {A : Type 0} (column : ℕ) (rest : Answer A) (x : A)
     → (cond (ltb 25 column) (refused 4 0) rest ≡ given x) ↔ ((column ≤ 25) × (rest ≡ given x))
 column-given column rest x =
     let iff = first-given ((ltb 25 column gives noSuchColumn) ∷ []) rest x in

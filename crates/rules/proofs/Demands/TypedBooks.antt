@@ -12,6 +12,7 @@ use Rattle.rules.specs.Book.{checkBook, sound}
 use Rattle.rules.specs.Supply.{Supply}
 use Rattle.rules.specs.Entries.{Asked, askedChecks, singlePlan, plainPlan, judgeSingle, Offered, askedOn}
 use Rattle.rules.specs.Entries.{closeSingle, fractionalPlan, judgeFractional, closeFractional}
+use Rattle.rules.specs.Entries.{curtailedPlan, judgeCurtailed, closeCurtailed}
 
 -- a check more that finds nothing wrong
 one-more : {A : Type 0} (cs : List Check) (n : ℕ) (x : Answer A)
@@ -53,3 +54,14 @@ module _ (a b : List ℕ) (good : checkBook a ≡ sound) (fine : checkBook b ≡
     pub same-fractional-record : closeFractional s o a sample ≡ closeFractional s o b sample
     unfolding closeFractional
     same-fractional-record = rw same-fractional-verdict
+
+-- and of a curtailed sample, under reduced too: no book is read for one
+module _ (a b : List ℕ) (good : checkBook a ≡ sound) (fine : checkBook b ≡ sound) where
+  pub same-curtailed-verdict : (q : Asked) (sample : List ℕ) → judgeCurtailed q a sample ≡ judgeCurtailed q b sample
+  unfolding judgeCurtailed curtailedPlan
+  same-curtailed-verdict q sample = rw (good, fine)
+
+  pub same-curtailed-record : (s : Supply) (o : Offered) (sample : List ℕ)
+      → closeCurtailed s o a sample ≡ closeCurtailed s o b sample
+  unfolding closeCurtailed
+  same-curtailed-record s o sample = rw (good, fine, same-curtailed-verdict (askedOn (s .switching) o) sample)

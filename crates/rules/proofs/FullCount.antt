@@ -1,0 +1,231 @@
+-- A curtailed sample beside the full count: the lot is accepted alike on every legal full sample that begins so, no
+-- answered sample begins another, and of every legal full sample one beginning is answered.
+-- Assumes nothing.
+use Prim.Native.Nat.{ℕ, zero, suc, _+_, _-_, _*_, _≤_, _<_}
+use mathlib.Core.Path.{_≡_, refl, sym, ap, subst, _∙_}
+use mathlib.Core.Logic.{_⊎_, inl, inr}
+use mathlib.Core.Bool.{Bool, true, false, _&&_, _||_}
+use mathlib.Core.List.{List, [], _∷_, _++_}
+use native.Mathlib.Omega.{arith}
+use borrow.Author.Tests.{lt-leb, leb-true, leb-false}
+use lib.Dec.{leb}
+use lib.ListN.{length, take, drop, length-append, take-append-drop}
+use lib.Seq.{take-all, take-length, take-append-seam, take-append-le, length-take-le}
+use Rattle.rules.specs.Numbers.{numbersOf, sumOf}
+use Rattle.rules.specs.Codes.{anyIllegal}
+use Rattle.rules.specs.Verdict.{Verdict}
+use Rattle.rules.specs.Single.{Plan, singleVerdict}
+use Rattle.rules.specs.Curtailed.{verdictAfter}
+use Rattle.rules.specs.Judging.{StopsAfter, Curtailed, Begins, LegalFull, SameVerdict, UsedAs}
+use Rattle.rules.proofs.Numbers.{numbers-low, numbers-high, numbers-take, numbers-append}
+use Rattle.rules.proofs.Items.{sum-append, all-legal, legal-append}
+use Rattle.rules.proofs.Bounded.{by-le}
+use Rattle.rules.proofs.Curtailing.{stops-once, stops-before, stops-alone, legal-stops}
+
+-- A sample that is answered, and a full one that begins so.
+module _ (column : ℕ) (plan : Plan) (sample full : List ℕ) (b : Begins sample full) (v : Verdict)
+    (c : Curtailed column sample plan v) where
+  abbrev items : List ℕ
+  items = numbersOf sample
+
+  abbrev rest : List ℕ
+  rest = numbersOf (b .rest)
+
+  joined : numbersOf full ≡ items ++ rest
+  joined = ap numbersOf (sym (b .joined)) ∙ numbers-append sample (b .rest) (c .whole)
+
+  sums : sumOf (numbersOf full) ≡ sumOf items + sumOf rest
+  sums = ap sumOf joined ∙ sum-append items rest
+
+  -- it stops at the same item
+  pub stops-in-full : StopsAfter column plan (numbersOf full) (length items)
+  stops-in-full = rw joined (stops-before column plan items rest (length items) (omega arith) (c .stops))
+
+  module _ (f : LegalFull column plan full) where
+    -- read to n, it is the full sample
+    read-to-n : length items ≡ plan .n → sample ≡ full
+    read-to-n e =
+        let none : length (b .rest) ≡ 0 =
+        omega (arith, length-append sample (b .rest), ap length (b .joined), c .whole, f .whole) in
+        sym (take-append-seam sample (b .rest))
+        ∙ ap (take (length sample)) (b .joined)
+        ∙ take-all (length sample) full
+        (omega (arith, length-append sample (b .rest), ap length (b .joined)))
+
+    lost : plan .ac < sumOf items → leb (sumOf (numbersOf full)) (plan .ac) ≡ leb (sumOf items) (plan .ac)
+    lost h =
+        lt-leb (sumOf (numbersOf full)) (plan .ac) (omega (arith, sums)) ∙ sym (lt-leb (sumOf items) (plan .ac) h)
+
+    passed-or-n : (plan .ac < sumOf items) ⊎ (sample ≡ full)
+    passed-or-n = on (c .stops .ends)
+      where
+        on : (plan .ac < sumOf (take (length items) items)) ⊎ (length items ≡ plan .n)
+            → (plan .ac < sumOf items) ⊎ (sample ≡ full)
+        on (inl h) = inl (rw (take-length items) at h)
+        on (inr e) = inr (read-to-n e)
+
+    -- "Accepted or not .. equal those of the full count"
+    accepted-alike : v .accepted ≡ leb (sumOf (numbersOf full)) (plan .ac)
+    accepted-alike = sym (ap (λ (w : Verdict). w .accepted) (c .verdict)) ∙ on passed-or-n
+      where
+        on : (plan .ac < sumOf items) ⊎ (sample ≡ full)
+            → leb (sumOf items) (plan .ac) ≡ leb (sumOf (numbersOf full)) (plan .ac)
+        on (inl h) = sym (lost h)
+        on (inr e) = ap (λ (s : List ℕ). leb (sumOf (numbersOf s)) (plan .ac)) e
+
+    -- and an accepted one is the full count's verdict, of the whole sample
+    accepted-full : v .accepted ≡ true → (sample ≡ full) × (v ≡ singleVerdict plan (sumOf (numbersOf full)))
+    accepted-full a = on passed-or-n
+      where
+        accepts : leb (sumOf items) (plan .ac) ≡ true
+        accepts = ap (λ (w : Verdict). w .accepted) (c .verdict) ∙ a
+
+        count : length (numbersOf full) ≡ plan .n
+        count = omega (arith, f .whole, numbers-low full, numbers-high full)
+
+        on : (plan .ac < sumOf items) ⊎ (sample ≡ full)
+            → (sample ≡ full) × (v ≡ singleVerdict plan (sumOf (numbersOf full)))
+        on (inl h) = absurd (omega (arith, leb-true (sumOf items) (plan .ac) accepts))
+        on (inr e) = (
+          e,
+          sym (c .verdict)
+              ∙ ap (λ (s : List ℕ). verdictAfter plan (length (numbersOf s)) (sumOf (numbersOf s))) e
+              ∙ ap (λ (n : ℕ). verdictAfter plan n (sumOf (numbersOf full))) count,
+        )
+
+    pub same-verdict : SameVerdict v (singleVerdict plan (sumOf (numbersOf full)))
+    same-verdict = record { same-accepted = accepted-alike; same-when-accepted = λ a. accepted-full a .1 }
+
+    pub used-as : UsedAs plan sample full v
+    used-as =
+        let used : length items ≡ v .used = ap (λ (w : Verdict). w .used) (c .verdict) in
+        let s : StopsAfter column plan (numbersOf full) (v .used) =
+        subst (StopsAfter column plan (numbersOf full)) used stops-in-full in
+        record {
+          read = omega (arith, used, c .whole);
+          n-when-accepted = λ a. ap (λ (w : Verdict). w .used) (accepted-full a .1);
+          deciding = λ r. by-le (plan .n) (v .used) (λ h. at-n r used h) (λ h. before-n (s .ends) h);
+          none-earlier = s .earlier;
+        }
+      where
+        before-n : (plan .ac < sumOf (take (v .used) (numbersOf full))) ⊎ (v .used ≡ plan .n) → v .used < plan .n
+            → plan .ac < sumOf (take (v .used) (numbersOf full))
+        before-n (inl h) l = h
+        before-n (inr e) l = absurd (omega arith)
+
+        at-n : v .accepted ≡ false → length items ≡ v .used → plan .n ≤ v .used
+            → plan .ac < sumOf (take (v .used) (numbersOf full))
+        at-n r used h =
+            let all : take (v .used) (numbersOf full) ≡ numbersOf full =
+            take-all (v .used) (numbersOf full) (omega (arith, numbers-low full, f .whole)) in
+            rw all (leb-false (sumOf (numbersOf full)) (plan .ac) (sym accepted-alike ∙ r))
+
+-- An answered sample begins some legal full sample: it goes on with items of 0.
+module _ (column : ℕ) (plan : Plan) (sample : List ℕ) (v : Verdict) (c : Curtailed column sample plan v) where
+  clean : ℕ → List ℕ
+  clean zero = []
+  clean (suc k) = 0 ∷ 0 ∷ clean k
+
+  clean-length : (k : ℕ) → length (clean k) ≡ 2 * k
+  unfolding clean
+  clean-length zero = refl
+  clean-length (suc k) = omega (arith, clean-length k)
+
+  clean-legal : (k : ℕ) → anyIllegal column (numbersOf (clean k)) ≡ false
+  unfolding clean numbersOf anyIllegal
+  clean-legal zero = refl
+  clean-legal (suc k) = on (leb column 15) (clean-legal k)
+    where
+      on : (t : Bool) → anyIllegal column (numbersOf (clean k)) ≡ false
+          → ((t && false) || anyIllegal column (numbersOf (clean k))) ≡ false
+      on true e = e
+      on false e = e
+
+  pub begins-full : (full : List ℕ) × Begins sample full × LegalFull column plan full
+  begins-full =
+      let k = plan .n - length (numbersOf sample) in
+      let join = numbers-append sample (clean k) (c .whole) in
+      let all : take (length (numbersOf sample)) (numbersOf sample) ≡ numbersOf sample =
+      take-length (numbersOf sample) in (
+        sample ++ clean k,
+        record { rest = clean k; joined = refl },
+        record {
+          whole =
+              omega (arith, length-append sample (clean k), clean-length k, c .whole, c .stops .within);
+          legal =
+              all-legal column (numbersOf (sample ++ clean k)) .0
+              (rw join
+              (legal-append column (numbersOf sample) (numbersOf (clean k)) (rw all at (c .stops .legal))
+              (clean-legal k)));
+        },
+      )
+
+-- An answered sample has no answered proper beginning.
+pub no-proper : (column : ℕ) (plan : Plan) (short long : List ℕ) → Begins short long → (u v : Verdict)
+    → Curtailed column short plan u → Curtailed column long plan v → short ≡ long
+no-proper column plan short long b u v c d =
+    let same : length (numbersOf short) ≡ length (numbersOf long) =
+    stops-once column plan (numbersOf long) _ _ (stops-in-full column plan short long b u c) (d .stops) in
+    sym (take-append-seam short (b .rest))
+    ∙ ap (take (length short)) (b .joined)
+    ∙ take-all (length short) long (omega (arith, c .whole, d .whole))
+
+-- Of two beginnings of one sample one begins the other.
+either-begins : (a b full : List ℕ) → length a ≤ length b → Begins a full → Begins b full → Begins a b
+either-begins a b full h i j =
+    record {
+      rest = drop (length a) b;
+      joined = ap (λ (l : List ℕ). l ++ drop (length a) b) front ∙ take-append-drop (length a) b;
+    }
+  where
+    front : a ≡ take (length a) b
+    front =
+        sym (take-append-seam a (i .rest))
+        ∙ ap (take (length a)) (i .joined ∙ sym (j .joined))
+        ∙ take-append-le (length a) b (j .rest) h
+
+-- Every legal full sample has exactly one beginning that is answered.
+module _ (column : ℕ) (plan : Plan) (full : List ℕ) (f : LegalFull column plan full) where
+  abbrev all : List ℕ
+  all = numbersOf full
+
+  count : length all ≡ plan .n
+  count = omega (arith, f .whole, numbers-low full, numbers-high full)
+
+  stop : (k : ℕ) × StopsAfter column plan all k
+  stop = legal-stops column plan all (all-legal column all .1 (f .legal)) (omega (arith, count))
+
+  pub answered : List ℕ
+  answered = take (2 * stop .0) full
+
+  pub answered-begins : Begins answered full
+  unfolding answered
+  answered-begins = record { rest = drop (2 * stop .0) full; joined = take-append-drop (2 * stop .0) full }
+
+  pub answered-so : Curtailed column answered plan
+      (verdictAfter plan (length (numbersOf answered)) (sumOf (numbersOf answered)))
+  unfolding answered
+  answered-so =
+      let k = stop .0 in
+      let h : k ≤ length all = stop .1 .there in
+      let e : numbersOf (take (2 * k) full) ≡ take k all = numbers-take full k in
+      let len : length (take k all) ≡ k = length-take-le k all h in
+      record {
+        whole = rw (e, len) (length-take-le (2 * k) full (omega (arith, count, f .whole)));
+        stops =
+            rw (e, len)
+            (stops-alone column plan (take k all) (drop k all) k (omega arith)
+            (rw (take-append-drop k all) (stop .1)));
+        verdict = refl;
+      }
+
+  pub answered-alone : (other : List ℕ) (v : Verdict) → Begins other full → Curtailed column other plan v
+      → other ≡ answered
+  answered-alone other v b c =
+      by-le (length other) (length answered)
+      (λ h.
+      no-proper column plan other answered (either-begins other answered full h b answered-begins) v _ c answered-so)
+      (λ h.
+      sym
+      (no-proper column plan answered other
+      (either-begins answered other full (omega arith) answered-begins b) _ v answered-so c))
