@@ -18,7 +18,7 @@ use Rattle.rules.specs.Verdict.{Verdict, ended}
 use Rattle.rules.specs.Single.{Plan}
 use Rattle.rules.specs.Curtailed.{verdictAfter, curtailedFrom, judgeUntilLost}
 use Rattle.rules.specs.Reporting.{Reports}
-use Rattle.rules.specs.Judging.{StopsAfter, Curtailed, WrongEnd, ends-before, goes-past, MeetsIllegal}
+use Rattle.rules.specs.Judging.{StopsAfter, CurtailedJudged, WrongEnd, ends-before, goes-past, MeetsIllegal}
 use Rattle.rules.specs.Judging.{CurtailedRows}
 use Rattle.rules.proofs.Bools.{or-neither}
 use Rattle.rules.proofs.Bounded.{by-le}
@@ -387,13 +387,14 @@ module _ (column : ℕ) (plan : Plan) (sample : List ℕ) where
       on e (illegally m) = m
       on e (rightly v g) = absurd (refused-given (sym e ∙ g))
 
-  pub curtailed-given : (v : Verdict) → (judged ≡ given v) ↔ Curtailed column sample plan v
+  pub curtailed-given : (v : Verdict) → (judged ≡ given v) ↔ CurtailedJudged column sample plan v
   curtailed-given v = (
     λ g. on g (which column plan (halfLeft sample) (plan .n) 0 items (omega arith)),
     λ c. whole-stops (c .stops) (c .whole) ∙ ap given (c .verdict),
   )
     where
-      on : judged ≡ given v → Which column plan (halfLeft sample) (plan .n) 0 items → Curtailed column sample plan v
+      on : judged ≡ given v → Which column plan (halfLeft sample) (plan .n) 0 items
+          → CurtailedJudged column sample plan v
       on g (stops k s) =
           let t = at-start column plan items k s in
           let e = ended-so (halfLeft sample) (drop k items) _ v (sym (stopped k t) ∙ g) in

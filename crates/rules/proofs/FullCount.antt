@@ -16,7 +16,7 @@ use Rattle.rules.specs.Codes.{anyIllegal}
 use Rattle.rules.specs.Verdict.{Verdict}
 use Rattle.rules.specs.Single.{Plan, singleVerdict}
 use Rattle.rules.specs.Curtailed.{verdictAfter}
-use Rattle.rules.specs.Judging.{StopsAfter, Curtailed, Begins, LegalFull, SameVerdict, UsedAs}
+use Rattle.rules.specs.Judging.{StopsAfter, CurtailedJudged, Begins, LegalFull, SameVerdict, UsedAs}
 use Rattle.rules.proofs.Numbers.{numbers-low, numbers-high, numbers-take, numbers-append}
 use Rattle.rules.proofs.Items.{sum-append, all-legal, legal-append}
 use Rattle.rules.proofs.Bounded.{by-le}
@@ -24,7 +24,7 @@ use Rattle.rules.proofs.Curtailing.{stops-once, stops-before, stops-alo
 
 -- A sample that is answered, and a full one that begins so.
 module _ (column : ℕ) (plan : Plan) (sample full : List ℕ) (b : Begins sample full) (v : Verdict)
-    (c : Curtailed column sample plan v) where
+    (c : CurtailedJudged column sample plan v) where
   abbrev items : List ℕ
   items = numbersOf sample
 
@@ -121,7 +121,7 @@ module _ (column : ℕ) (plan : Plan) (sample full : List ℕ) (b : Begins sampl
             rw all (leb-false (sumOf (numbersOf full)) (plan .ac) (sym accepted-alike ∙ r))
 
 -- An answered sample begins some legal full sample: it goes on with items of 0.
-module _ (column : ℕ) (plan : Plan) (sample : List ℕ) (v : Verdict) (c : Curtailed column sample plan v) where
+module _ (column : ℕ) (plan : Plan) (sample : List ℕ) (v : Verdict) (c : CurtailedJudged column sample plan v) where
   clean : ℕ → List ℕ
   clean zero = []
   clean (suc k) = 0 ∷ 0 ∷ clean k
@@ -162,7 +162,7 @@ module _ (column : ℕ) (plan : Plan) (sample : List ℕ) (v : Verdict) (c : Cur
 
 -- An answered sample has no answered proper beginning.
 pub no-proper : (column : ℕ) (plan : Plan) (short long : List ℕ) → Begins short long → (u v : Verdict)
-    → Curtailed column short plan u → Curtailed column long plan v → short ≡ long
+    → CurtailedJudged column short plan u → CurtailedJudged column long plan v → short ≡ long
 no-proper column plan short long b u v c d =
     let same : length (numbersOf short) ≡ length (numbersOf long) =
     stops-once column plan (numbersOf long) _ _ (stops-in-full column plan short long b u c) (d .stops) in
@@ -202,7 +202,7 @@ module _ (column : ℕ) (plan : Plan) (full : List ℕ) (f : LegalFull column pl
   unfolding answered
   answered-begins = record { rest = drop (2 * stop .0) full; joined = take-append-drop (2 * stop .0) full }
 
-  pub answered-so : Curtailed column answered plan
+  pub answered-so : CurtailedJudged column answered plan
       (verdictAfter plan (length (numbersOf answered)) (sumOf (numbersOf answered)))
   unfolding answered
   answered-so =
@@ -219,7 +219,7 @@ module _ (column : ℕ) (plan : Plan) (full : List ℕ) (f : LegalFull column pl
         verdict = refl;
       }
 
-  pub answered-alone : (other : List ℕ) (v : Verdict) → Begins other full → Curtailed column other plan v
+  pub answered-alone : (other : List ℕ) (v : Verdict) → Begins other full → CurtailedJudged column other plan v
       → other ≡ answered
   answered-alone other v b c =
       by-le (length other) (length answered)

@@ -58,7 +58,7 @@ pub record StopsAfter (column : ℕ) (plan : Plan) (items : List ℕ) (k : ℕ) 
   pub ends : (plan .ac < sumOf (take k items)) ⊎ (k ≡ plan .n)
 
 -- A curtailed sample is all read, and its verdict. "its items used .. are the items read"
-pub record Curtailed (column : ℕ) (sample : List ℕ) (plan : Plan) (v : Verdict) : Type 0 where
+pub record CurtailedJudged (column : ℕ) (sample : List ℕ) (plan : Plan) (v : Verdict) : Type 0 where
   pub whole : length sample ≡ 2 * length (numbersOf sample)
   pub stops : StopsAfter column plan (numbersOf sample) (length (numbersOf sample))
   pub verdict :

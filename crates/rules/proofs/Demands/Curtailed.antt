@@ -22,7 +22,8 @@ use Rattle.rules.specs.Entries.{Asked, singlePlan, plainPlan, curtailedP
 use Rattle.rules.specs.Entries.{judgeSingle, judgeCurtailed, Closed, Offered, askedOn, singleCounts, singleEvent}
 use Rattle.rules.specs.Entries.{closeSingle, closeCurtailed}
 use Rattle.rules.specs.Reporting.{OnBook, Reports, Row}
-use Rattle.rules.specs.Judging.{Curtailed, CurtailedRows, Begins, LegalFull, SameVerdict, UsedAs, OneBeginning}
+use Rattle.rules.specs.Judging.{CurtailedJudged, CurtailedRows, Begins, LegalFull, SameVerdict, UsedAs}
+use Rattle.rules.specs.Judging.{OneBeginning}
 use Rattle.rules.specs.Planning.{Plannable, PlainPlanRows, CurtailedPlanned, CurtailedLotRows, SameJudged}
 use Rattle.rules.specs.Planning.{SameClosed, Closes}
 use Rattle.rules.proofs.Answers.{given-one}
@@ -44,7 +45,7 @@ module _ (column : ℕ) (plan : Plan) where
   curtailed-sample-refused sample = column-reports column (curtailed-reports column plan sample)
 
   pub curtailed-sample-given : (sample : List ℕ) (v : Verdict)
-      → (curtailedSample column plan sample ≡ given v) ↔ ((column ≤ 25) × Curtailed column sample plan v)
+      → (curtailedSample column plan sample ≡ given v) ↔ ((column ≤ 25) × CurtailedJudged column sample plan v)
   unfolding curtailedSample
   curtailed-sample-given sample v = (
     λ g. let c = column-given column _ v .0 g in (c .0, curtailed-given column plan sample v .0 (c .1)),
@@ -143,11 +144,11 @@ module _ (q : Asked) (book : List ℕ) where
 
   pub judge-curtailed-given : (sample : List ℕ) (j : Judged Plan Verdict)
       → (judgeCurtailed q book sample ≡ given j)
-      ↔ ((curtailedPlan q book ≡ given (j .plan)) × Curtailed (q .column) sample (j .plan) (j .verdict))
+      ↔ ((curtailedPlan q book ≡ given (j .plan)) × CurtailedJudged (q .column) sample (j .plan) (j .verdict))
   unfolding judgeCurtailed
   judge-curtailed-given sample j =
       judged-by (curtailedPlan q book) (λ plan. judgeUntilLost (q .column) plan sample)
-      (λ plan v. Curtailed (q .column) sample plan v) (λ plan v. curtailed-given (q .column) plan sample v) j
+      (λ plan v. CurtailedJudged (q .column) sample plan v) (λ plan v. curtailed-given (q .column) plan sample v) j
 
   abbrev Judges : List ℕ → Type 0
   Judges sample = (j : Judged Plan Verdict) × (judgeCurtailed q book sample ≡ given j)
@@ -187,10 +188,10 @@ module _ (q : Asked) (book : List ℕ) where
 
   -- the samples that are judged are those on the lot's plan
   judged-on : (plan : Plan) → curtailedPlan q book ≡ given plan → (sample : List ℕ) → (j : Judges sample)
-      → Curtailed (q .column) sample plan (j .0 .verdict)
+      → CurtailedJudged (q .column) sample plan (j .0 .verdict)
   judged-on plan p sample j =
       let h = judge-curtailed-given sample (j .0) .0 (j .1) in
-      subst (λ (x : Plan). Curtailed (q .column) sample x (j .0 .verdict)) (given-one (sym (h .0) ∙ p)) (h .1)
+      subst (λ (x : Plan). CurtailedJudged (q .column) sample x (j .0 .verdict)) (given-one (sym (h .0) ∙ p)) (h .1)
 
   -- No sample that is judged begins another ..
   pub judge-curtailed-alone : (short long : List ℕ) → Begins short long → Judges short → Judges long → short ≡ long
