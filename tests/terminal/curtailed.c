@@ -18,13 +18,13 @@ static void expect(bool holds, const char *what) {
         report(what, &call);
 }
 
-/* A sample as numbers a space apart, each with x and how many of it there are, or one; h is half of a 1. */
+/* A sample as numbers a space apart, each with x and how many of it there are, or one; h is half of a 1, H of a 2. */
 static void set_sample(const char *text) {
     char *end;
     call.sample_len = 0;
     for (; *text != '\0'; text = *end == ' ' ? end + 1 : end) {
-        if (*text == 'h') {
-            call.sample[call.sample_len++] = 1;
+        if (*text == 'h' || *text == 'H') {
+            call.sample[call.sample_len++] = *text == 'h' ? 1 : 2;
             return;
         }
         unsigned item = (unsigned)strtoul(text, &end, 10);
@@ -45,7 +45,7 @@ struct sample_case {
     unsigned status, accepted, used;
 };
 
-enum { MOST_SAMPLES = 40 };
+enum { MOST_SAMPLES = 48 };
 
 struct plan_case {
     struct lot lot;
@@ -87,6 +87,9 @@ static const struct plan_case plans[] = {
          {"1x3 h", 7, 0, 0},
          {"0x80 h", 7, 0, 0},
          {"1x3 2 h", 7, 0, 0},
+         {"0 H", 7, 0, 0},
+         {"1x2 H", 7, 0, 0},
+         {"1x3 H", 7, 0, 0},
          /* an illegal item that is met decides nothing, however large, and is met before what is missing after it */
          {"2", 8, 0, 0},
          {"65535", 8, 0, 0},
@@ -95,6 +98,8 @@ static const struct plan_case plans[] = {
          {"0x79 256", 8, 0, 0},
          {"1 2 1x2", 8, 0, 0},
          {"2 1x3 0x76", 8, 0, 0},
+         {"2 0x80", 8, 0, 0},
+         {"1x2 2 0x78", 8, 0, 0},
          {"0 3 h", 8, 0, 0},
          {"1x2 2 1 0", 8, 0, 0},
      }},

@@ -335,12 +335,12 @@ module _ (column : ℕ) (plan : Plan) (sample : List ℕ) where
       ∙ ap (λ (l : List ℕ). given (verdictAfter plan (length items) (sumOf l))) (take-length items)
 
   -- what a sample comes to
-  data Comes : Type 0 where
+  pub data Comes : Type 0 where
     wrongly : WrongEnd column plan sample → Comes
     illegally : MeetsIllegal column plan items → Comes
     rightly : (v : Verdict) → judged ≡ given v → Comes
 
-  comes : Comes
+  pub comes : Comes
   comes = on (which column plan (halfLeft sample) (plan .n) 0 items (omega arith))
     where
       on : Which column plan (halfLeft sample) (plan .n) 0 items → Comes

@@ -1,26 +1,33 @@
 -- A curtailed sample beside the full count: the lot is accepted alike on every legal full sample that begins so, no
--- answered sample begins another, and of every legal full sample one beginning is answered.
+-- answered sample begins another, and of every legal full sample one beginning is answered. By which number the others
+-- are refused is said by beginnings too.
 -- Assumes nothing.
 use Prim.Native.Nat.{ℕ, zero, suc, _+_, _-_, _*_, _≤_, _<_}
 use mathlib.Core.Path.{_≡_, refl, sym, ap, subst, _∙_}
-use mathlib.Core.Logic.{_⊎_, inl, inr}
+use mathlib.Core.Logic.{_↔_, _⊎_, inl, inr}
 use mathlib.Core.Bool.{Bool, true, false, _&&_, _||_}
-use mathlib.Core.List.{List, [], _∷_, _++_}
+use mathlib.Core.List.{List, [], _++_, append-nil}
 use native.Mathlib.Omega.{arith}
 use borrow.Author.Tests.{lt-leb, leb-true, leb-false}
 use lib.Dec.{leb}
-use lib.ListN.{length, take, drop, length-append, take-append-drop}
+use lib.ListN.{length, getD, take, drop, replicate, length-append, length-replicate, take-append-drop}
 use lib.Seq.{take-all, take-length, take-append-seam, take-append-le, length-take-le}
+use Rattle.rules.specs.Refusals.{refused}
 use Rattle.rules.specs.Numbers.{numbersOf, sumOf}
 use Rattle.rules.specs.Codes.{anyIllegal}
 use Rattle.rules.specs.Verdict.{Verdict}
 use Rattle.rules.specs.Single.{Plan, singleVerdict}
-use Rattle.rules.specs.Curtailed.{verdictAfter}
+use Rattle.rules.specs.Curtailed.{verdictAfter, judgeUntilLost}
 use Rattle.rules.specs.Judging.{StopsAfter, CurtailedJudged, Begins, LegalFull, SameVerdict, UsedAs}
-use Rattle.rules.proofs.Numbers.{numbers-low, numbers-high, numbers-take, numbers-append}
-use Rattle.rules.proofs.Items.{sum-append, all-legal, legal-append}
+use Rattle.rules.specs.Judging.{ends-before, goes-past, MeetsIllegal, IllegalFirst}
+use Rattle.rules.proofs.Answers.{refused-given}
+use Rattle.rules.proofs.Refusals.{refused-number}
+use Rattle.rules.proofs.Numbers.{numbers-low, numbers-high, numbers-take, numbers-append, numbers-begin}
+use Rattle.rules.proofs.Items.{sum-append, all-legal, legal-append, legal-split, illegal-means}
 use Rattle.rules.proofs.Bounded.{by-le}
-use Rattle.rules.proofs.Curtailing.{stops-once, stops-before, stops-alone, legal-stops}
+use Rattle.rules.proofs.Curtailing.{stops-once, stops-before, stops-alone, legal-stops, Comes, wrongly}
+use Rattle.rules.proofs.Curtailing.{illegally, rightly, comes, curtailed-seven, curtailed-eight}
+use Rattle.rules.proofs.Curtailing.{curtailed-given}
 
 -- A sample that is answered, and a full one that begins so.
 module _ (column : ℕ) (plan : Plan) (sample full : List ℕ) (b : Begins sample full) (v : Verdict)
@@ -120,43 +127,35 @@ module _ (column : ℕ) (plan : Plan) (sample full : List ℕ) (b : Begins sampl
             take-all (v .used) (numbersOf full) (omega (arith, numbers-low full, f .whole)) in
             rw all (leb-false (sumOf (numbersOf full)) (plan .ac) (sym accepted-alike ∙ r))
 
--- An answered sample begins some legal full sample: it goes on with items of 0.
-module _ (column : ℕ) (plan : Plan) (sample : List ℕ) (v : Verdict) (c : CurtailedJudged column sample plan v) where
-  clean : ℕ → List ℕ
-  clean zero = []
-  clean (suc k) = 0 ∷ 0 ∷ clean k
-
-  clean-length : (k : ℕ) → length (clean k) ≡ 2 * k
-  unfolding clean
-  clean-length zero = refl
-  clean-length (suc k) = omega (arith, clean-length k)
-
-  clean-legal : (k : ℕ) → anyIllegal column (numbersOf (clean k)) ≡ false
-  unfolding clean numbersOf anyIllegal
-  clean-legal zero = refl
-  clean-legal (suc k) = on (leb column 15) (clean-legal k)
+-- An answered sample begins some legal full sample: it goes on with zeros.
+module _ (column : ℕ) where
+  zeros-legal : (k : ℕ) → anyIllegal column (numbersOf (replicate k 0)) ≡ false
+  unfolding numbersOf anyIllegal
+  zeros-legal zero = refl
+  zeros-legal (suc zero) = refl
+  zeros-legal (suc (suc k)) = on (leb column 15) (zeros-legal k)
     where
-      on : (t : Bool) → anyIllegal column (numbersOf (clean k)) ≡ false
-          → ((t && false) || anyIllegal column (numbersOf (clean k))) ≡ false
+      on : (t : Bool) → anyIllegal column (numbersOf (replicate k 0)) ≡ false
+          → ((t && false) || anyIllegal column (numbersOf (replicate k 0))) ≡ false
       on true e = e
       on false e = e
 
-  pub begins-full : (full : List ℕ) × Begins sample full × LegalFull column plan full
-  begins-full =
-      let k = plan .n - length (numbersOf sample) in
-      let join = numbers-append sample (clean k) (c .whole) in
+  pub begins-full : (plan : Plan) (sample : List ℕ) (v : Verdict) → CurtailedJudged column sample plan v
+      → (k : ℕ) × LegalFull column plan (sample ++ replicate k 0)
+  begins-full plan sample v c =
+      let k = 2 * plan .n - length sample in
+      let zeros : List ℕ = replicate k 0 in
+      let join = numbers-append sample zeros (c .whole) in
       let all : take (length (numbersOf sample)) (numbersOf sample) ≡ numbersOf sample =
       take-length (numbersOf sample) in (
-        sample ++ clean k,
-        record { rest = clean k; joined = refl },
+        k,
         record {
           whole =
-              omega (arith, length-append sample (clean k), clean-length k, c .whole, c .stops .within);
+              omega (arith, length-append sample zeros, length-replicate {A = ℕ} k 0, c .whole, c .stops .within);
           legal =
-              all-legal column (numbersOf (sample ++ clean k)) .0
+              all-legal column (numbersOf (sample ++ zeros)) .0
               (rw join
-              (legal-append column (numbersOf sample) (numbersOf (clean k)) (rw all at (c .stops .legal))
-              (clean-legal k)));
+              (legal-append column (numbersOf sample) (numbersOf zeros) (rw all at (c .stops .legal)) (zeros-legal k)));
         },
       )
 
@@ -184,6 +183,22 @@ either-begins a b full h i j =
         ∙ ap (take (length a)) (i .joined ∙ sym (j .joined))
         ∙ take-append-le (length a) b (j .rest) h
 
+-- Where the items of a sample stop, it is answered up to there.
+pub read-part : (column : ℕ) (plan : Plan) (sample : List ℕ) (k : ℕ) → StopsAfter column plan (numbersOf sample) k
+    → let part = take (2 * k) sample in
+    CurtailedJudged column part plan (verdictAfter plan (length (numbersOf part)) (sumOf (numbersOf part)))
+read-part column plan sample k s =
+    let items = numbersOf sample in
+    let e : numbersOf (take (2 * k) sample) ≡ take k items = numbers-take sample k in
+    let len : length (take k items) ≡ k = length-take-le k items (s .there) in
+    record {
+      whole = rw (e, len) (length-take-le (2 * k) sample (omega (arith, numbers-low sample, s .there)));
+      stops =
+          rw (e, len)
+          (stops-alone column plan (take k items) (drop k items) k (omega arith) (rw (take-append-drop k items) s));
+      verdict = refl;
+    }
+
 -- Every legal full sample has exactly one beginning that is answered.
 module _ (column : ℕ) (plan : Plan) (full : List ℕ) (f : LegalFull column plan full) where
   abbrev all : List ℕ
@@ -205,19 +220,7 @@ module _ (column : ℕ) (plan : Plan) (full : List ℕ) (f : LegalFull column pl
   pub answered-so : CurtailedJudged column answered plan
       (verdictAfter plan (length (numbersOf answered)) (sumOf (numbersOf answered)))
   unfolding answered
-  answered-so =
-      let k = stop .0 in
-      let h : k ≤ length all = stop .1 .there in
-      let e : numbersOf (take (2 * k) full) ≡ take k all = numbers-take full k in
-      let len : length (take k all) ≡ k = length-take-le k all h in
-      record {
-        whole = rw (e, len) (length-take-le (2 * k) full (omega (arith, count, f .whole)));
-        stops =
-            rw (e, len)
-            (stops-alone column plan (take k all) (drop k all) k (omega arith)
-            (rw (take-append-drop k all) (stop .1)));
-        verdict = refl;
-      }
+  answered-so = read-part column plan full (stop .0) (stop .1)
 
   pub answered-alone : (other : List ℕ) (v : Verdict) → Begins other full → CurtailedJudged column other plan v
       → other ≡ answered
@@ -229,3 +232,83 @@ module _ (column : ℕ) (plan : Plan) (full : List ℕ) (f : LegalFull column pl
       sym
       (no-proper column plan answered other
       (either-begins answered other full (omega arith) answered-begins b) _ v answered-so c))
+
+-- The numbers of the samples that are not answered, by beginnings: no walk in it.
+module _ (column : ℕ) (plan : Plan) where
+  abbrev Answers : List ℕ → Type 0
+  Answers sample = (v : Verdict) × CurtailedJudged column sample plan v
+
+  -- 8 where an illegal item is met first
+  met-first : (sample : List ℕ) → MeetsIllegal column plan (numbersOf sample) → IllegalFirst column Answers sample
+  met-first sample m =
+      let i = illegal-means column (getD (numbersOf sample) (m .place) 0) (m .illegal-there) in
+      record {
+        illegal-item = record { place = m .place; there = m .there; counts = i .0; tooMuch = i .1 };
+        none-answered = none;
+      }
+    where
+      eight : judgeUntilLost column plan sample ≡ refused 8 0
+      eight = curtailed-eight column plan sample .1 m
+
+      none : (part : List ℕ) → Begins part sample → Answers part → ⊥
+      none part b c =
+          by-le (length sample) (length part)
+          (λ h.
+          let same : part ≡ sample =
+          sym (take-append-seam part (b .rest))
+          ∙ ap (take (length part)) (b .joined)
+          ∙ take-all (length part) sample h in
+          refused-given
+          (sym eight
+          ∙ ap (judgeUntilLost column plan) (sym same)
+          ∙ curtailed-given column plan part (c .0) .1 (c .1)))
+          (λ h.
+          let seven = curtailed-seven column plan sample .1
+          (goes-past (length (numbersOf part)) (stops-in-full column plan part sample b (c .0) (c .1))
+          (omega (arith, c .1 .whole))) in
+          let z : _≡_ {A = ℕ} 7 8 = refused-number (sym seven ∙ eight) in omega arith)
+
+  pub eight-first : (sample : List ℕ)
+      → (judgeUntilLost column plan sample ≡ refused 8 0) ↔ IllegalFirst column Answers sample
+  eight-first sample = (
+    λ e. met-first sample (curtailed-eight column plan sample .0 e),
+    λ i. on i (comes column plan sample),
+  )
+    where
+      on : IllegalFirst column Answers sample → Comes column plan sample
+          → judgeUntilLost column plan sample ≡ refused 8 0
+      on i (wrongly (ends-before few legal undecided)) =
+          absurd (all-legal column (numbersOf sample) .0 legal (i .illegal-item))
+      on i (wrongly (goes-past k s more)) =
+          absurd
+          (i .none-answered (take (2 * k) sample)
+          (record { rest = drop (2 * k) sample; joined = take-append-drop (2 * k) sample })
+          (_, read-part column plan sample k s))
+      on i (illegally m) = curtailed-eight column plan sample .1 m
+      on i (rightly v g) =
+          absurd
+          (i .none-answered sample (record { rest = []; joined = append-nil sample })
+          (v, curtailed-given column plan sample v .0 g))
+
+  -- 7 for an answered sample with anything after it ..
+  pub seven-past : (sample rest : List ℕ) → Answers sample → 0 < length rest
+      → judgeUntilLost column plan (sample ++ rest) ≡ refused 7 0
+  seven-past sample rest c more =
+      curtailed-seven column plan (sample ++ rest) .1
+      (goes-past (length (numbersOf sample))
+      (stops-in-full column plan sample (sample ++ rest) (record { rest = rest; joined = refl }) (c .0) (c .1))
+      (omega (arith, length-append sample rest, c .1 .whole)))
+
+  -- .. and for every part of one that it begins with
+  pub seven-before : (part rest : List ℕ) → Answers (part ++ rest) → 0 < length rest
+      → judgeUntilLost column plan part ≡ refused 7 0
+  seven-before part rest c more =
+      let items = numbersOf (part ++ rest) in
+      let few : length (numbersOf part) < length items =
+      omega (arith, length-append part rest, c .1 .whole, numbers-low part) in
+      let legal : anyIllegal column items ≡ false = rw (take-length items) at (c .1 .stops .legal) in
+      curtailed-seven column plan part .1
+      (ends-before (omega (arith, c .1 .stops .within))
+      (ap (anyIllegal column) (numbers-begin part rest)
+      ∙ legal-split column (length (numbersOf part)) items legal .0)
+      (omega (arith, ap sumOf (numbers-begin part rest), c .1 .stops .earlier (length (numbersOf part)) few)))

@@ -62,6 +62,13 @@ numbers-append [] c e = refl
 numbers-append (x ∷ []) c e = absurd (omega arith)
 numbers-append (x ∷ y ∷ b) c e = ap (λ (l : List ℕ). (x + 256 * y) ∷ l) (numbers-append b c (omega arith))
 
+-- any bytes before others
+pub numbers-begin : (b c : List ℕ) → numbersOf b ≡ take (length (numbersOf b)) (numbersOf (b ++ c))
+unfolding numbersOf
+numbers-begin [] c = refl
+numbers-begin (x ∷ []) c = refl
+numbers-begin (x ∷ y ∷ b) c = ap (λ (l : List ℕ). (x + 256 * y) ∷ l) (numbers-begin b c)
+
 -- of the part of a slice from a place to its end
 pub numbers-part : (b : List ℕ) (i : ℕ) → numbersOf (take (length b - 2 * i) (drop (2 * i) b)) ≡ drop i (numbersOf b)
 numbers-part b i =

@@ -225,8 +225,11 @@ pub later-alike : (w : Work) (later cs ds : List Call) → ran w cs ≡ ran w ds
 unfolding ran eventsRan
 later-alike w [] cs ds e f = (e, f)
 later-alike w (c ∷ later) cs ds e f =
-    let x = later-alike w later cs ds e f in
-    (rw (x .0), rw (x .0, x .1))
+    let x = later-alike w later cs ds e f in (
+      ap (λ (s : Supply). supplyBy s (entered w s c)) (x .0),
+      ap (λ (es : List Event). eventsBy es (entered w (ran w (later ++ cs)) c)) (x .1)
+          ∙ ap (λ (s : Supply). eventsBy (eventsRan w (later ++ ds)) (entered w s c)) (x .0),
+    )
 
 -- Both together: the supply is the one that the written reading finds.
 pub ran-as-read : (w : Work) (cs : List Call) → ran w cs ≡ supplyRead (w .permission) (eventsRan w cs)
@@ -320,7 +323,8 @@ ran-resubmitted w [] c cs h =
     go : (x : Entered) → Enters (λ e. e ≡ resubmitted) (ran w cs) x → supplyBy (ran w cs) x ≡ ran w cs
     go (enters e t) k = resubmitted-took (ran w cs) t e (k .2) (k .0)
     go nothing k = refl
-ran-resubmitted w (d ∷ later) c cs h = rw (ran-resubmitted w later c cs h)
+ran-resubmitted w (d ∷ later) c cs h =
+    ap (λ (s : Supply). supplyBy s (entered w s d)) (ran-resubmitted w later c cs h)
 
 -- So without all of them.
 pub ran-without : (w : Work) (cs : List Call) → ran w (withoutResubmissions w cs) ≡ ran w cs

@@ -86,6 +86,11 @@ sampleCases =
     ∷ (seals normal (2 ∷ threeBad) is (8 ∷ 0 ∷ []))
     ∷ (seals normal (0 ∷ 2 ∷ []) is (8 ∷ 0 ∷ []))
     ∷ (seals normal (1 ∷ 1 ∷ 2 ∷ []) is (8 ∷ 0 ∷ []))
+    -- an illegal item that is met comes first, also in a sample that goes on past n or by half an item; half an item
+    -- is missing, whatever it holds
+    ∷ (seals normal (2 ∷ replicate 80 0) is (8 ∷ 0 ∷ []))
+    ∷ (judgedIn noBook normal 1000 5 10 (numberBytes (0 ∷ 2 ∷ []) ++ (0 ∷ [])) is (8 ∷ 0 ∷ []))
+    ∷ (judgedIn noBook normal 1000 5 10 (0 ∷ 0 ∷ 2 ∷ []) is (7 ∷ 0 ∷ []))
     -- nonconformities: Ac passed at the first item, at the last, met at the last
     ∷ (counts (65535 ∷ []) is (0 ∷ 1 ∷ 65535 ∷ []))
     ∷ (counts (8 ∷ []) is (0 ∷ 1 ∷ 8 ∷ []))

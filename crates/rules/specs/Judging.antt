@@ -116,6 +116,12 @@ pub record UsedAs (plan : Plan) (sample full : List ℕ) (v : Verdict) : Type 0 
   pub deciding : v .accepted ≡ false → plan .ac < sumOf (take (v .used) (numbersOf full))
   pub none-earlier : (i : ℕ) → i < v .used → sumOf (take i (numbersOf full)) ≤ plan .ac
 
+-- "whichever of 7 and 8 it meets first", by beginnings alone: there is an illegal item, and neither the sample nor a
+-- beginning of it is answered.
+pub record IllegalFirst (column : ℕ) (Answered : List ℕ → Type 0) (sample : List ℕ) : Type 0 where
+  pub illegal-item : IllegalAt column (numbersOf sample)
+  pub none-answered : (part : List ℕ) → Begins part sample → Answered part → ⊥
+
 -- One beginning of a full sample, and no other, is answered.
 pub record OneBeginning (Answered : List ℕ → Type 0) (full : List ℕ) : Type 0 where
   pub sample : List ℕ

@@ -32,14 +32,8 @@ use Rattle.plans.specs.Paper.{Beside, beside, outcomeOn, verdictAnswer, verdict
 use Rattle.plans.proofs.Standing.{beside-answer, planned-refused, planned-given}
 use Rattle.entry.specs.Paper.{noStages}
 use Rattle.closing.specs.Paper.{planJudged, planClosed}
-use Rattle.sentencing.specs.Paper.{withoutLetter, planned}
-use Rattle.sentencing.proofs.Supplies.{refused-alike, checked-once}
-
--- a refusal, with zeros and no letter beside it
-pub unplanned-beside : {P : Type 0} {zeros plan : P} {n p : ℕ} → plan ≡ zeros
-    → planned (outcomes.Refused n p) 0 plan ≡ beside (withoutLetter zeros) itself (refused n p)
-unplanned-beside {P} {zeros} {plan} {n} {p} e =
-    ap (λ (x : P). record { answer = refused n p; plan = withoutLetter x }) e
+use Rattle.choosing.specs.Paper.{withoutLetter, planned}
+use Rattle.choosing.proofs.Supplies.{refused-alike, checked-once}
 
 -- The plan of a lot, by what planning it promises: beside its outcome, with or without its letter.
 module _ {P : Type 0} (zeros : P) (a : Answer P) (o : Outcome) (plan : P)

@@ -12,7 +12,7 @@ use super::judging::StagedJudged;
 use super::judging::judge_curtailed;
 use super::judging::judge_single;
 use super::judging::judge_staged;
-use super::planning::first_refusal;
+use choosing::first_refusal;
 use closing::ClosedAnswer;
 use closing::Offered;
 use closing::SingleClosed;

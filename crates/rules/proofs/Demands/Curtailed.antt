@@ -5,10 +5,11 @@ use Prim.Native.Nat.{ℕ, _≤_, _<_}
 use mathlib.Core.Path.{_≡_, refl, sym, subst, _∙_}
 use mathlib.Core.Logic.{_↔_}
 use mathlib.Core.Bool.{Bool, true, false, cond}
-use mathlib.Core.List.{List}
+use mathlib.Core.List.{List, _++_}
 use native.Mathlib.Omega.{arith}
-use borrow.Author.Tests.{eq-eqb, ne-eqb}
+use borrow.Author.Tests.{eq-eqb, ne-eqb, le-ltb}
 use lib.Dec.{eqb}
+use lib.ListN.{length, replicate}
 use Rattle.rules.specs.Refusals.{refused, given}
 use Rattle.rules.specs.Codes.{reduced}
 use Rattle.rules.specs.Numbers.{numbersOf, sumOf}
@@ -23,7 +24,7 @@ use Rattle.rules.specs.Entries.{judgeSingle, judgeCurtailed, Closed, Off
 use Rattle.rules.specs.Entries.{closeSingle, closeCurtailed}
 use Rattle.rules.specs.Reporting.{OnBook, Reports, Row}
 use Rattle.rules.specs.Judging.{CurtailedJudged, CurtailedRows, Begins, LegalFull, SameVerdict, UsedAs}
-use Rattle.rules.specs.Judging.{OneBeginning}
+use Rattle.rules.specs.Judging.{IllegalFirst, OneBeginning}
 use Rattle.rules.specs.Planning.{Plannable, PlainPlanRows, CurtailedPlanned, CurtailedLotRows, SameJudged}
 use Rattle.rules.specs.Planning.{SameClosed, Closes}
 use Rattle.rules.proofs.Answers.{given-one}
@@ -33,7 +34,8 @@ use Rattle.rules.proofs.EntryLaws.{closing-book-given, lot-moves}
 use Rattle.rules.proofs.Moving.{sampled-counts}
 use Rattle.rules.proofs.Curtailing.{curtailed-reports, curtailed-given}
 use Rattle.rules.proofs.FullCount.{same-verdict, used-as, begins-full, no-proper, answered}
-use Rattle.rules.proofs.FullCount.{answered-begins, answered-so, answered-alone}
+use Rattle.rules.proofs.FullCount.{answered-begins, answered-so, answered-alone, eight-first, seven-past}
+use Rattle.rules.proofs.FullCount.{seven-before}
 use Rattle.rules.proofs.Demands.Two.{column-reports, column-given, single-sample-given, plain-plan-refused}
 use Rattle.rules.proofs.Demands.Two.{plain-plan-given, judge-single-given, close-single-given}
 
@@ -70,7 +72,7 @@ module _ (column : ℕ) (plan : Plan) where
       )
 
   pub curtailed-sample-begins : (sample : List ℕ) → Sampled sample
-      → (full : List ℕ) × Begins sample full × LegalFull column plan full
+      → (k : ℕ) × LegalFull column plan (sample ++ replicate k 0)
   curtailed-sample-begins sample s =
       begins-full column plan sample (s .0) (curtailed-sample-given sample (s .0) .0 (s .1) .1)
 
@@ -97,6 +99,45 @@ module _ (column : ℕ) (plan : Plan) where
             λ other b c.
             answered-alone column plan full f other (c .0) b (curtailed-sample-given other (c .0) .0 (c .1) .1);
       }
+
+  in-column : column ≤ 25 → (sample : List ℕ) → curtailedSample column plan sample ≡ judgeUntilLost column plan sample
+  unfolding curtailedSample
+  in-column h sample = rw (le-ltb 25 column h)
+
+  -- "whichever of 7 and 8 it meets first": 8 exactly for a sample with an illegal item and no beginning that is judged
+  pub curtailed-sample-eight : column ≤ 25 → (sample : List ℕ)
+      → (curtailedSample column plan sample ≡ refused 8 0) ↔ IllegalFirst column Sampled sample
+  curtailed-sample-eight h sample = (
+    λ e.
+        let i = eight-first column plan sample .0 (sym (in-column h sample) ∙ e) in
+        record {
+          illegal-item = i .illegal-item;
+          none-answered =
+              λ part b s. i .none-answered part b (s .0, curtailed-sample-given part (s .0) .0 (s .1) .1);
+        },
+    λ i.
+        in-column h sample
+        ∙ eight-first column plan sample .1
+        record {
+          illegal-item = i .illegal-item;
+          none-answered =
+              λ part b c. i .none-answered part b (c .0, curtailed-sample-given part (c .0) .1 (h, c .1));
+        },
+  )
+
+  -- "7 when the sample .. goes on past its end", whatever follows ..
+  pub curtailed-sample-past : (sample rest : List ℕ) → Sampled sample → 0 < length rest
+      → curtailedSample column plan (sample ++ rest) ≡ refused 7 0
+  curtailed-sample-past sample rest s more =
+      let c = curtailed-sample-given sample (s .0) .0 (s .1) in
+      in-column (c .0) (sample ++ rest) ∙ seven-past column plan sample rest (s .0, c .1) more
+
+  -- .. or "ends before" it: until then each part of a sample that comes to be judged is 7
+  pub curtailed-sample-before : (part rest : List ℕ) → Sampled (part ++ rest) → 0 < length rest
+      → curtailedSample column plan part ≡ refused 7 0
+  curtailed-sample-before part rest s more =
+      let c = curtailed-sample-given (part ++ rest) (s .0) .0 (s .1) in
+      in-column (c .0) part ∙ seven-before column plan part rest (s .0, c .1) more
 
 -- 2. The plan: that of the tables, and 6 under reduced.
 module _ (q : Asked) (book : List ℕ) where
@@ -182,7 +223,7 @@ module _ (q : Asked) (book : List ℕ) where
       )
 
   pub judge-curtailed-begins : (sample : List ℕ) (j : Judged Plan Verdict) → judgeCurtailed q book sample ≡ given j
-      → (full : List ℕ) × Begins sample full × LegalFull (q .column) (j .plan) full
+      → (k : ℕ) × LegalFull (q .column) (j .plan) (sample ++ replicate k 0)
   judge-curtailed-begins sample j g =
       begins-full (q .column) (j .plan) sample (j .verdict) (judge-curtailed-given sample j .0 g .1)
 
@@ -219,6 +260,27 @@ module _ (q : Asked) (book : List ℕ) where
             λ other b c.
             answered-alone (q .column) (i .plan) full f other (c .0 .verdict) b (judged-on (i .plan) p other c);
       }
+
+  -- A lot is judged or refused as its sample is, on its plan.
+  on-lot : (plan : Plan) → curtailedPlan q book ≡ given plan → (sample : List ℕ) (n : ℕ)
+      → judgeUntilLost (q .column) plan sample ≡ refused n 0 → judgeCurtailed q book sample ≡ refused n 0
+  unfolding judgeCurtailed
+  on-lot plan p sample n e = rw (p, e)
+
+  -- asked after each item, a lot is 7 until it is judged, and 7 again with anything more
+  pub judge-curtailed-before : (part rest : List ℕ) → Judges (part ++ rest) → 0 < length rest
+      → judgeCurtailed q book part ≡ refused 7 0
+  judge-curtailed-before part rest j more =
+      let h = judge-curtailed-given (part ++ rest) (j .0) .0 (j .1) in
+      on-lot (j .0 .plan) (h .0) part 7
+      (seven-before (q .column) (j .0 .plan) part rest (j .0 .verdict, h .1) more)
+
+  pub judge-curtailed-past : (sample rest : List ℕ) → Judges sample → 0 < length rest
+      → judgeCurtailed q book (sample ++ rest) ≡ refused 7 0
+  judge-curtailed-past sample rest j more =
+      let h = judge-curtailed-given sample (j .0) .0 (j .1) in
+      on-lot (j .0 .plan) (h .0) (sample ++ rest) 7
+      (seven-past (q .column) (j .0 .plan) sample rest (j .0 .verdict, h .1) more)
 
 -- 4. A lot closed.
 module _ (s : Supply) (o : Offered) (book : List ℕ) where
@@ -292,7 +354,7 @@ module _ (s : Supply) (o : Offered) (book : List ℕ) where
   as-judged-on sample c = (c .0 .judged, close-curtailed-given sample (c .0) .0 (c .1) .as-judged)
 
   pub close-curtailed-begins : (sample : List ℕ) (c : Closed Plan) → closeCurtailed s o book sample ≡ given c
-      → (full : List ℕ) × Begins sample full × LegalFull (o .column) (c .judged .plan) full
+      → (k : ℕ) × LegalFull (o .column) (c .judged .plan) (sample ++ replicate k 0)
   close-curtailed-begins sample c g =
       judge-curtailed-begins asked book sample (c .judged) (close-curtailed-given sample c .0 g .as-judged)
 

@@ -7,7 +7,7 @@ use Rattle.rules.specs.Entries.{sequentialPlan, judgeSequential}
 use Rattle.plans.specs.Paper.{askedPaper, beside}
 use Rattle.entry.specs.Paper.{sequentialPaper}
 use Rattle.closing.specs.Paper.{planJudged}
-use Rattle.sentencing.specs.Paper.{zeroSequential}
+use Rattle.choosing.specs.Paper.{zeroSequential}
 use Rattle.sentencing.proofs.Verdicts.{lettered-refused, lettered-given, judged-refused, judged-given}
 use borrow.Author.Needs.{needs}
 use Rattle.sentencing.proofs.judging.judge_sequential.Statement.{statement}

@@ -10,7 +10,7 @@ use Rattle.rules.specs.Entries.{variablesPlan, judgeVariables, variablesSample}
 use Rattle.plans.specs.Paper.{askedPaper, beside}
 use Rattle.entry.specs.Paper.{variablesPaper}
 use Rattle.closing.specs.Paper.{planJudged}
-use Rattle.sentencing.specs.Paper.{zeroVariables}
+use Rattle.choosing.specs.Paper.{zeroVariables}
 use Rattle.sentencing.proofs.Verdicts.{lettered-refused, lettered-given, judged-refused, judged-given}
 use Rattle.sentencing.proofs.Verdicts.{variables-sample}
 use borrow.Author.Needs.{needs}

@@ -1,7 +1,7 @@
 -- `terminal::judging::hm_sequential` meets its contract.
 -- Assumes nothing.
 use Rattle.entry.specs.Paper.{sequentialPaper}
-use Rattle.sentencing.specs.Paper.{zeroSequential}
+use Rattle.choosing.specs.Paper.{zeroSequential}
 use Rattle.closing.specs.Paper.{planJudged}
 use Rattle.terminal.proofs.Lending.{beside-answer, verdict-left}
 use Rattle.terminal.proofs.Fits.{sequential-fits}

@@ -9,7 +9,7 @@ use Rattle.rules.specs.Entries.{judgeVariables}
 use Rattle.plans.specs.Paper.{verdictOn}
 use Rattle.entry.specs.Paper.{variablesPaper}
 use Rattle.closing.specs.Paper.{planJudged}
-use Rattle.sentencing.specs.Paper.{zeroVariables}
+use Rattle.choosing.specs.Paper.{zeroVariables}
 use Rattle.terminal.specs.Lent.{asked}
 use Rattle.terminal.proofs.Lending.{beside-answer, verdict-left}
 use Rattle.terminal.proofs.Fits.{variables-fits}

@@ -5,7 +5,7 @@ use Rattle.rules.specs.Staged.{StagedPlan}
 use Rattle.rules.specs.Entries.{Lettered, lettered, stagedPlan}
 use Rattle.rules.proofs.Demands.Two as two
 use Rattle.entry.specs.Paper.{noStages}
-use Rattle.sentencing.specs.Paper.{withoutLetter}
+use Rattle.choosing.specs.Paper.{withoutLetter}
 use Rattle.terminal.specs.Lent.{asked}
 use Rattle.terminal.proofs.Lending.{planned-refused, planned-given, staged-refused, row-short, row-given}
 use Rattle.terminal.proofs.Fits.{book-place-fits}

@@ -1,7 +1,7 @@
 -- `terminal::planning::hm_variables_plan` meets its contract.
 -- Assumes nothing.
 use Rattle.rules.proofs.Demands.Two as two
-use Rattle.sentencing.specs.Paper.{withoutLetter, zeroVariables}
+use Rattle.choosing.specs.Paper.{withoutLetter, zeroVariables}
 use Rattle.terminal.proofs.Lending.{planned-refused, planned-given, variables-refused, variables-given}
 use Rattle.terminal.proofs.Fits.{book-place-fits}
 use borrow.Author.Needs.{needs}

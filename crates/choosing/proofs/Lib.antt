@@ -1,0 +1,4 @@
+mod Beside
+pub mod OneResult
+mod Sizes
+pub mod Supplies
