@@ -199,7 +199,7 @@ static void judge_until_lost(void) {
     uint32_t status = HM_BAD_LENGTH;
     draw_sample(n, 2);
     sample[2 * 9] = 1;
-    for (size_t items = 1; status == HM_BAD_LENGTH && items <= n; items++)
+    for (size_t items = 1; HM_NUMBER(status) == HM_BAD_LENGTH && items <= n; items++)
         status = hm_curtailed(SIZE, LEVEL, COLUMN, HM_NORMAL, book, book_len, sample, 2 * items, &accepted, &used);
     print_verdict("curtailed", status, accepted, used);
 }

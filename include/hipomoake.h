@@ -137,8 +137,8 @@ enum {
     HM_NO_PLAN      = 6,  /* no book entry under the lot's key; a staged total, nt or variables n above the size; a
                              fraction at a column over HM_AQL_10; no such entry to read; a curtailed sample under
                              HM_REDUCED */
-    HM_BAD_LENGTH   = 7,  /* a sample of the wrong length, half an item included; a curtailed one that ends before its
-                             end or goes on past it; for hm_screen not 1 to 50 readings */
+    HM_BAD_LENGTH   = 7,  /* a sample of the wrong length, half an item included; a curtailed one that stops before
+                             the deciding item or n, or goes on past it; for hm_screen not 1 to 50 readings */
     HM_BAD_ITEM     = 8,  /* an item over 1 where items are 0 or 1 */
     HM_BAD_READING  = 9,  /* a reading or a limit not in -1,000 to 1,000 */
     HM_NOT_STOPPED  = 10, /* a corrective order when inspection is not stopped */
@@ -302,14 +302,16 @@ uint32_t hm_sequential(uint32_t size, uint32_t level, uint32_t column, uint32_t 
 
 /*
  * Judge a curtailed sample by the lot's single plan (n and Ac of hm_plan), under normal or tightened: counting stops at
- * the item at which the total passes Ac, since the lot is then lost, whatever the rest would hold. The lot is accepted
- * or not as hm_single says of any legal full sample that begins so, and never accepted before n.
+ * the item at which the total passes Ac, since the lot is then lost, whatever the rest would hold; an accepted lot is
+ * still counted to n. The lot is accepted or not as hm_single says of any legal full sample that begins so.
  *   accepted  1 or 0
  *   used      items used: all of the sample; n where the lot is accepted
- * It may be called after each item, with all items so far: HM_BAD_LENGTH says to go on, and the first answer is the
- * verdict. Stop there: with an item more the sample is HM_BAD_LENGTH again, and stays so.
- * Refuses 1 2 3 4 5 6 7 8 12; 6 under HM_REDUCED, whatever the book has; 7 for a sample that ends before its end or
- * goes on past it.
+ * A terminal that asks after each item, from the first on, with all items so far, goes on while it hears HM_BAD_LENGTH
+ * and stops at the first answer: with anything more the sample is HM_BAD_LENGTH again, and stays so. At n items it
+ * means that the end was passed; hm_single judges those. Where the lot is to be closed then, ask with the severity of
+ * its record, record[HM_RECORD_SEVERITY].
+ * Refuses 1 2 3 4 5 6 7 8 12; 6 under HM_REDUCED, whatever the book has: there the sample is counted in full; 7 for a
+ * sample that stops before the deciding item or n, or goes on past it.
  */
 uint32_t hm_curtailed(uint32_t size, uint32_t level, uint32_t column, uint32_t severity, const uint8_t *book,
                       size_t book_len, const uint8_t *sample, size_t sample_len, uint8_t *accepted, uint16_t *used);
@@ -345,13 +347,14 @@ uint32_t hm_fractional(const uint8_t *record, size_t record_len, uint32_t size, 
  * Judge a sample at the record's severity, by the lot's single plan (hm_close_curtailed: a curtailed sample), its
  * staged plan, or its single plan in the mode of fractions, and move the record by the verdict. A resubmitted lot is
  * judged alike and leaves the record as it is. A curtailed sample moves the record as any legal full one that begins
- * so.
+ * so. hm_close_curtailed may be called after each item too: its first answer closes the lot, and has to be the last
+ * call for it. The record, and so the plan, may have changed, and the same items can close another lot.
  *   resubmitted  HM_ORIGINAL, which is 0, for an original lot; HM_RESUBMITTED, or anything else, for a resubmitted one
  *   accepted     1 or 0
  *   used         items used: all of the sample
  *   byte         the history byte that the lot stands for, HM_ACCEPTED_ADD_3 to HM_RESUBMITTED
  * Each refuses 1 2 3 4 5 6 7 8 12; hm_close_fractional gives 6 also for a fraction at a column over 15,
- * hm_close_curtailed under HM_REDUCED, whatever the book has.
+ * hm_close_curtailed under HM_REDUCED, whatever the book has: there the lot is closed by hm_close_single.
  */
 uint32_t hm_close_single(uint8_t *record, size_t record_len, uint32_t resubmitted, uint32_t size, uint32_t level,
                          uint32_t column, const uint8_t *book, size_t book_len, const uint8_t *sample,

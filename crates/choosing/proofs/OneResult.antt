@@ -1,38 +1,18 @@
 -- Each promise of a public function admits one result: answers with the same numbers and values are the same, since
--- the documents' answer tells the code's. Those of single plans are planned-one (plans).
+-- the documents' answer tells the code's. Those of single plans are planned-one (plans), those of plans alone stand in
+-- entry.
 -- Assumes nothing.
 use mathlib.Core.Path.{_≡_, refl, ap}
 use Rattle.rules.specs.Refusals.{Answer, refused, given}
-use Rattle.rules.specs.Staged as staged
-use Rattle.rules.specs.Sequential as sequential
-use Rattle.rules.specs.Variables as variables
 use Rattle.rules.proofs.Answers.{read-back}
 use Rattle.plans.specs.declared.Outcome.{Outcome}
 use Rattle.plans.proofs.OneResult.{outcomeBack, outcome-back}
-use Rattle.entry.specs.declared.StagedPlan.{StagedPlan}
-use Rattle.entry.specs.declared.SequentialPlan.{SequentialPlan}
-use Rattle.entry.specs.declared.VariablesPlan.{VariablesPlan}
-use Rattle.entry.specs.Paper.{sequentialPaper, variablesPaper}
+use Rattle.entry.proofs.OneResult.{stagedBack, sequentialBack, variablesBack}
 use Rattle.choosing.specs.declared.Refusal.{Refusal}
 use Rattle.choosing.specs.declared.StagedPlanned.{StagedPlanned}
 use Rattle.choosing.specs.declared.SequentialPlanned.{SequentialPlanned}
 use Rattle.choosing.specs.declared.VariablesPlanned.{VariablesPlanned}
 use Rattle.choosing.specs.Paper.{refusalPaper, stagedPlanned, sequentialPlanned, variablesPlanned}
-
-abbrev pub stagedBack : staged.StagedPlan → StagedPlan
-stagedBack p = record { stages = p .stages; sizes = p .sizes; acs = p .acs; res = p .res }
-
-abbrev pub sequentialBack : sequential.SequentialPlan → SequentialPlan
-sequentialBack p = record { ha = p .hA; hr = p .hR; g = p .g; nt = p .nt; «at_nt» = p .atNt }
-
-abbrev pub variablesBack : variables.VariablesPlan → VariablesPlan
-variablesBack p = record { n = p .n; k = p .k }
-
-pub sequential-plan-one : (a b : SequentialPlan) → sequentialPaper a ≡ sequentialPaper b → a ≡ b
-sequential-plan-one = read-back sequentialPaper sequentialBack (λ a. refl)
-
-pub variables-plan-one : (a b : VariablesPlan) → variablesPaper a ≡ variablesPaper b → a ≡ b
-variables-plan-one = read-back variablesPaper variablesBack (λ a. refl)
 
 refusalBack : Answer (Unit {0}) → Refusal
 refusalBack (refused n p) = record { number = n; place = p }

@@ -31,14 +31,21 @@ walk-one = read-back walkPaper walkBack is
 pub reduced-one : (a b : ReducedSingle) → reducedPaper a ≡ reducedPaper b → a ≡ b
 reduced-one = read-back reducedPaper (λ p. record { n = p .n; ac = p .ac }) (λ a. refl)
 
+-- the code's plan of the documents'
+abbrev pub stagedBack : staged.StagedPlan → StagedPlan
+stagedBack p = record { stages = p .stages; sizes = p .sizes; acs = p .acs; res = p .res }
+
+abbrev pub sequentialBack : sequential.SequentialPlan → SequentialPlan
+sequentialBack p = record { ha = p .hA; hr = p .hR; g = p .g; nt = p .nt; «at_nt» = p .atNt }
+
+abbrev pub variablesBack : variables.VariablesPlan → VariablesPlan
+variablesBack p = record { n = p .n; k = p .k }
+
 pub staged-one : (a b : StagedPlan) → stagedPaper a ≡ stagedPaper b → a ≡ b
-staged-one =
-    read-back stagedPaper (λ p. record { stages = p .stages; sizes = p .sizes; acs = p .acs; res = p .res }) (λ a. refl)
+staged-one = read-back stagedPaper stagedBack (λ a. refl)
 
 pub sequential-one : (a b : SequentialPlan) → sequentialPaper a ≡ sequentialPaper b → a ≡ b
-sequential-one =
-    read-back sequentialPaper
-    (λ p. record { ha = p .hA; hr = p .hR; g = p .g; nt = p .nt; «at_nt» = p .atNt }) (λ a. refl)
+sequential-one = read-back sequentialPaper sequentialBack (λ a. refl)
 
 pub variables-one : (a b : VariablesPlan) → variablesPaper a ≡ variablesPaper b → a ≡ b
-variables-one = read-back variablesPaper (λ p. record { n = p .n; k = p .k }) (λ a. refl)
+variables-one = read-back variablesPaper variablesBack (λ a. refl)

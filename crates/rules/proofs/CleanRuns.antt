@@ -27,7 +27,7 @@ use Rattle.rules.proofs.Agreement.{severity-agrees}
 use Rattle.rules.proofs.Stays.{stays-whole}
 
 no-run-on : (letter column : ℕ) → runOn noRun letter column ≡ 0
-no-run-on letter column = either (eqb 0 letter && eqb 0 column)
+no-run-on letter column = simp either
   where
     either : (d : Bool) → _≡_ {A = ℕ} (cond d 0 0) 0
     either true = refl

@@ -7,7 +7,7 @@ use Rattle.rules.proofs.Answers.{read-back}
 use Rattle.plans.specs.declared.VerdictAnswer.{VerdictAnswer}
 use Rattle.plans.specs.Paper.{fractionalPaper}
 use Rattle.plans.proofs.OneResult.{fractionalBack}
-use Rattle.choosing.proofs.OneResult.{stagedBack, sequentialBack, variablesBack}
+use Rattle.entry.proofs.OneResult.{stagedBack, sequentialBack, variablesBack}
 use Rattle.entry.specs.Paper.{stagedPaper, sequentialPaper, variablesPaper}
 use Rattle.closing.specs.declared.ClosedAnswer.{ClosedAnswer}
 use Rattle.closing.proofs.OneResult.{judgedBack, judged-back, closedBack, closed-back}
