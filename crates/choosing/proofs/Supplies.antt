@@ -14,7 +14,7 @@ use Rattle.rules.specs.Book.{Checked, sound, brokenAt, checkBook, onSound, kind
 use Rattle.rules.specs.Book.{ReducedSingle, reducedOf}
 use Rattle.rules.specs.Layout.{entryOf}
 use Rattle.rules.specs.Entries.{Asked, askedChecks, askedLetter, lookedUp, fromEntry, unlessAbove, Lettered, lettered}
-use Rattle.rules.specs.Entries.{reducedPlan, singlePlan}
+use Rattle.rules.specs.Entries.{reducedPlan, singlePlan, plainPlan, curtailedPlan}
 use Rattle.rules.proofs.Answers.{refused-then, given-one, then-given}
 use Rattle.rules.proofs.Checks.{checks-alike, asked-kept, asked-passed, asked-letter}
 use Rattle.rules.proofs.EntryLaws.{lot-passes, lot-given, sound-given}
@@ -34,6 +34,14 @@ pub checked-once : {A B : Type 0} (c : Checked) (a : Answer A) (f : A → Answer
     → onSound c (andThen (onSound c a) f) ≡ andThen (onSound c a) f
 checked-once sound a f = refl
 checked-once (brokenAt byte) a f = refl
+
+-- a lot that has no plan of the tables is refused, after its book
+pub untabled : (q : Asked) (book : List ℕ) (n p m r : ℕ) → plainPlan q ≡ refused n p
+    → _≡_ {A = Answer (Unit {0})} (refused m r) (onSound (checkBook book) (refused n p))
+    → refused m r ≡ curtailedPlan q book
+unfolding curtailedPlan
+untabled q book n p m r e first =
+    refused-alike (checkBook book) n p m r first ∙ ap (onSound (checkBook book)) (sym e)
 
 module _ (section : ℕ) (q : Asked) (book : List ℕ) where
   abbrev place : Answer ℕ

@@ -95,17 +95,6 @@ fn reduced_plan(lot: Asked, book: &[u8]) -> SinglePlanned
     }
 }
 
-// The tables' plan, which every curtailed sample is judged on: "12 first", and 6 under reduced.
-pub fn from_tables(lot: Asked, book: &[u8]) -> SinglePlanned
-    ensures { λ r. ⌜ plannedPaper r
-        ≡ beside zeroPlan itself (curtailedPlan (askedPaper lot) (now (book .entry))) ⌝ }
-{
-    match book::check_book(book) {
-        BookAnswer::Refused(number, byte) => plans::unplanned(number, byte),
-        BookAnswer::Sound => plans::table_plan(lot),
-    }
-}
-
 // The single plan of a lot.
 pub fn single_plan(lot: Asked, book: &[u8]) -> SinglePlanned
     ensures { λ r. ⌜ plannedPaper r
@@ -114,7 +103,39 @@ pub fn single_plan(lot: Asked, book: &[u8]) -> SinglePlanned
     if lot.severity == REDUCED {
         return reduced_plan(lot, book);
     }
-    from_tables(lot, book)
+    match book::check_book(book) {
+        BookAnswer::Refused(number, byte) => plans::unplanned(number, byte),
+        BookAnswer::Sound => plans::table_plan(lot),
+    }
+}
+
+// No curtailed sample has a plan under reduced: "12 first", then the lot's own refusals, then 6.
+fn uncurtailed(lot: Asked, book: &[u8]) -> SinglePlanned
+    requires { ⌜ lot .severity ≡ reduced ⌝ }
+    ensures { λ r. ⌜ plannedPaper r
+        ≡ beside zeroPlan itself (curtailedPlan (askedPaper lot) (now (book .entry))) ⌝ }
+{
+    match plans::asked_letter(lot) {
+        LetterAnswer::Refused(number, place) => {
+            let first = first_refusal(book, number, place);
+            plans::unplanned(first.number, first.place)
+        }
+        LetterAnswer::Given(_) => {
+            let first = first_refusal(book, NO_PLAN, 0);
+            plans::unplanned(first.number, first.place)
+        }
+    }
+}
+
+// The plan of a curtailed sample: the single plan under normal or tightened.
+pub fn curtailed_plan(lot: Asked, book: &[u8]) -> SinglePlanned
+    ensures { λ r. ⌜ plannedPaper r
+        ≡ beside zeroPlan itself (curtailedPlan (askedPaper lot) (now (book .entry))) ⌝ }
+{
+    if lot.severity == REDUCED {
+        return uncurtailed(lot, book);
+    }
+    single_plan(lot, book)
 }
 
 // Is there a plan that only a book supplies; beside it the lot's Table 1 letter and the plan, all 0 beside a refusal.

@@ -22,7 +22,7 @@ use Rattle.rules.specs.Entries.{Offered, askedOn, onSupply, Closed, closedWith,
 use Rattle.rules.specs.Entries.{closeStaged, curtailedPlan, curtailedSample, judgeCurtailed, closeCurtailed}
 use Rattle.rules.proofs.Answers.{refused-given, given-one}
 use Rattle.rules.proofs.Demands.Two.{single-plan-given, staged-plan-given}
-use Rattle.rules.proofs.Demands.Curtailed.{curtailed-plan-given}
+use Rattle.rules.proofs.Demands.Curtailed.{in-column, curtailed-plan-given}
 use Rattle.rules.proofs.GivenPlans.{variables-given}
 use Rattle.plans.specs.declared.Outcome.{Outcome}
 use Rattle.plans.specs.declared.Outcome.the-variants as outcomes
@@ -94,10 +94,9 @@ module _ (q : Asked) (book sample : List ℕ) where
 
   pub curtailed-sample : (p : Plan) → curtailedPlan q book ≡ given p
       → curtailedSample (q .column) p sample ≡ judgeUntilLost (q .column) p sample
-  unfolding curtailedSample
   curtailed-sample p h =
       let lot = curtailed-plan-given q book p .0 h .planned .lot in
-      rw (le-ltb 25 (q .column) (omega (arith, lot .column)))
+      in-column (q .column) p (omega (arith, lot .column)) sample
 
   pub staged-sample : (p : StagedPlan) → stagedPlan q book ≡ given p
       → stagedSample (q .column) p sample ≡ judgeStages (q .column) p sample

@@ -7,7 +7,7 @@ ghost use Rattle.entry.specs.Paper.{stagedPaper, noStages, sequentialPaper, var
 ghost use Rattle.closing.specs.Paper.{judgedBeside, planJudged};
 ghost use Rattle.choosing.specs.Paper.{zeroSequential, zeroVariables};
 ghost use Rattle.sentencing.specs.Paper.{stagedJudged, sequentialJudged, variablesJudged};
-use choosing::from_tables;
+use choosing::curtailed_plan;
 use choosing::no_readings;
 use choosing::no_sequence;
 use choosing::sequential_plan;
@@ -62,7 +62,7 @@ pub fn judge_curtailed(lot: Asked, book: &[u8], sample: &[u8]) -> SingleJudged
         ≡ beside zeroPlan planJudged
         (judgeCurtailed (askedPaper lot) (now (book .entry)) (now (sample .entry))) ⌝ }
 {
-    let planned = from_tables(lot, book);
+    let planned = curtailed_plan(lot, book);
     let answer = planned.answer;
     let plan = planned.plan;
     match answer {

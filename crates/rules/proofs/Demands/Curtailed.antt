@@ -100,7 +100,8 @@ module _ (column : ℕ) (plan : Plan) where
             answered-alone column plan full f other (c .0) b (curtailed-sample-given other (c .0) .0 (c .1) .1);
       }
 
-  in-column : column ≤ 25 → (sample : List ℕ) → curtailedSample column plan sample ≡ judgeUntilLost column plan sample
+  pub in-column : column ≤ 25 → (sample : List ℕ)
+      → curtailedSample column plan sample ≡ judgeUntilLost column plan sample
   unfolding curtailedSample
   in-column h sample = rw (le-ltb 25 column h)
 

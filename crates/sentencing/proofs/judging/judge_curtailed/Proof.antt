@@ -20,16 +20,16 @@ returns c =
     ∙ ap (beside zeroPlan planJudged)
     (judged-refused (curtailedPlan (askedPaper (a .lot)) (now (a .book)))
     (λ p. judgeUntilLost (a .lot .column) p (now (a .sample))) _ _
-    (single-refused zeroPlan _ _ _ (c .before .before .before .before .before .from-tables .ensures) _ _
+    (single-refused zeroPlan _ _ _ (c .before .before .before .before .before .curtailed-plan .ensures) _ _
     (c .before .before .answer .given .1)))
 
 returns-2 : tie.Need-returns-2
 unfolding judgeCurtailed
 returns-2 c =
     let a = c .before .before .before .before .before .before .before .before .args in
-    let plan = planPaper (c .before .before .before .before .before .from-tables .result .plan) in
+    let plan = planPaper (c .before .before .before .before .before .curtailed-plan .result .plan) in
     let g = single-given zeroPlan (curtailedPlan (askedPaper (a .lot)) (now (a .book))) _ plan
-    (c .before .before .before .before .before .from-tables .ensures) (c .before .before .enum-told .given .1) in
+    (c .before .before .before .before .before .curtailed-plan .ensures) (c .before .before .enum-told .given .1) in
     c .single-judged2 .ensures
     ∙ ap (beside zeroPlan planJudged)
     (judged-given (curtailedPlan (askedPaper (a .lot)) (now (a .book)))
