@@ -18,9 +18,10 @@ enum { PROVED, PLAIN, SIDES };
 
 struct side {
     uint32_t (*plan)(uint32_t size, uint32_t level, uint32_t column, uint32_t severity, const uint8_t *book,
-                     size_t book_len, uint8_t *letter, uint16_t *n, uint16_t *ac);
+                     size_t book_len, uint8_t *letter, uint16_t *n, uint16_t *ac, uint16_t *table_n, uint8_t *cut);
     uint32_t (*fractional_plan)(uint32_t size, uint32_t level, uint32_t column, uint32_t severity, const uint8_t *book,
-                                size_t book_len, uint8_t *letter, uint16_t *n, uint16_t *ac, uint8_t *share);
+                                size_t book_len, uint8_t *letter, uint16_t *n, uint16_t *ac, uint8_t *share,
+                                uint16_t *table_n, uint8_t *cut);
     judge *single, *curtailed, *staged, *sequential;
     uint32_t (*variables)(uint32_t size, uint32_t level, uint32_t column, uint32_t severity, const uint8_t *book,
                           size_t book_len, const uint8_t *readings, size_t readings_len, int32_t limit,

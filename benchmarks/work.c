@@ -94,11 +94,12 @@ static void prepare_plans(size_t size) {
 static uint64_t run_plans(const struct side *side) {
     uint64_t digest = 0;
     for (size_t i = 0, at = 0; i < calls; i++, at = at + 1 < LOTS ? at + 1 : 0) {
-        uint8_t letter = 0;
-        uint16_t n = 0, ac = 0;
+        uint8_t letter = 0, cut = 0;
+        uint16_t n = 0, ac = 0, table_n = 0;
         uint32_t status = side->plan(lots[at].size, lots[at].level, lots[at].column, lots[at].severity, book, book_len,
-                                     &letter, &n, &ac);
+                                     &letter, &n, &ac, &table_n, &cut);
         digest += status + ((uint64_t)letter << 40) + ((uint64_t)n << 20) + ac;
+        digest += ((uint64_t)table_n << 28) + ((uint64_t)cut << 12);
     }
     return digest;
 }
@@ -107,11 +108,12 @@ static uint64_t run_plans(const struct side *side) {
 static uint64_t run_fractional_plans(const struct side *side) {
     uint64_t digest = 0;
     for (size_t i = 0, at = 0; i < calls; i++, at = at + 1 < LOTS ? at + 1 : 0) {
-        uint8_t letter = 0, share = 0;
-        uint16_t n = 0, ac = 0;
+        uint8_t letter = 0, share = 0, cut = 0;
+        uint16_t n = 0, ac = 0, table_n = 0;
         uint32_t status = side->fractional_plan(lots[at].size, lots[at].level, lots[at].column, lots[at].severity, book,
-                                                book_len, &letter, &n, &ac, &share);
+                                                book_len, &letter, &n, &ac, &share, &table_n, &cut);
         digest += status + ((uint64_t)share << 48) + ((uint64_t)letter << 40) + ((uint64_t)n << 20) + ac;
+        digest += ((uint64_t)table_n << 28) + ((uint64_t)cut << 12);
     }
     return digest;
 }

@@ -1,8 +1,8 @@
 /*
- * A bench's day through the C terminal: a small book written from its entries and read back; the plans of a lot, a lot
- * of each kind sentenced, one of them only until it is lost; then lots closed on the record of their supply, with a
- * history that is kept and listed; last, small lots of another supply in the mode of fractions.
- * Link with libterminal.a. What it prints stands in terminal.out.
+ * A bench's day through the C terminal: a small book written from its entries and read back; the plans of a lot, and
+ * one that is the whole lot; a lot of each kind sentenced, one of them only until it is lost; then lots closed on the
+ * record of their supply, with a history that is kept and listed; last, small lots of another supply in the mode of
+ * fractions. Link with libterminal.a. What it prints stands in terminal.out.
  */
 #include "../include/hipomoake.h"
 
@@ -134,11 +134,23 @@ static void print_letter(void) {
         printf("%-16s %c\n", "letter", HM_LETTERS[letter]);
 }
 
-static void print_single_plan(const char *what, uint32_t severity) {
-    uint8_t letter;
-    uint16_t n, ac;
-    if (is_answered(what, hm_plan(SIZE, LEVEL, COLUMN, severity, book, book_len, &letter, &n, &ac)))
-        printf("%-16s letter %c, n %u, Ac %u\n", what, HM_LETTERS[letter], n, ac);
+/* Where the size was cut to the lot, the table's own (under reduced the book's) stands beside it. */
+static void print_size(uint16_t n, uint16_t table_n, uint8_t cut) {
+    if (cut)
+        printf("n %u (the whole lot; the table has %u)", n, table_n);
+    else
+        printf("n %u", n);
+}
+
+static void print_single_plan(const char *what, uint32_t size, uint32_t column, uint32_t severity) {
+    uint8_t letter, cut;
+    uint16_t n, ac, table_n;
+    uint32_t status = hm_plan(size, LEVEL, column, severity, book, book_len, &letter, &n, &ac, &table_n, &cut);
+    if (!is_answered(what, status))
+        return;
+    printf("%-16s letter %c, ", what, HM_LETTERS[letter]);
+    print_size(n, table_n, cut);
+    printf(", Ac %u\n", ac);
 }
 
 static void print_staged_plan(void) {
@@ -192,11 +204,12 @@ static void judge_items(void) {
 
 /* Items as they come off the bench, the third bad one tenth: 7 says that the lot is not decided yet. */
 static void judge_until_lost(void) {
-    uint8_t letter, accepted = 0;
-    uint16_t n, ac, used = 0;
-    if (!is_answered("plan", hm_plan(SIZE, LEVEL, COLUMN, HM_NORMAL, book, book_len, &letter, &n, &ac)))
+    uint8_t letter, cut, accepted = 0;
+    uint16_t n, ac, table_n, used = 0;
+    uint32_t status = hm_plan(SIZE, LEVEL, COLUMN, HM_NORMAL, book, book_len, &letter, &n, &ac, &table_n, &cut);
+    if (!is_answered("plan", status))
         return;
-    uint32_t status = HM_BAD_LENGTH;
+    status = HM_BAD_LENGTH;
     draw_sample(n, 2);
     sample[2 * 9] = 1;
     for (size_t items = 1; HM_NUMBER(status) == HM_BAD_LENGTH && items <= n; items++)
@@ -240,9 +253,10 @@ static void print_closed(const char *what, uint32_t status, uint8_t accepted, ui
 
 /* The plan at the record's severity says how many items to draw. */
 static void close_single(uint32_t resubmitted, size_t bad) {
-    uint8_t letter, accepted = 0;
-    uint16_t n, ac, used = 0;
-    uint32_t status = hm_plan(SIZE, LEVEL, COLUMN, supply[HM_RECORD_SEVERITY], book, book_len, &letter, &n, &ac);
+    uint8_t letter, cut, accepted = 0;
+    uint16_t n, ac, table_n, used = 0;
+    uint32_t status =
+        hm_plan(SIZE, LEVEL, COLUMN, supply[HM_RECORD_SEVERITY], book, book_len, &letter, &n, &ac, &table_n, &cut);
     if (!is_answered("plan", status))
         return;
     size_t len = draw_sample(n, bad);
@@ -313,14 +327,16 @@ enum { SMALL_SIZE = 12, SMALL_COLUMN = HM_AQL_6_5 };
 static uint8_t small_supply[HM_RECORD_BYTES] = HM_FRESH_RECORD;
 
 /* The items to draw; a fraction is printed as such. */
-static size_t print_fractional_plan(void) {
-    uint8_t letter, share;
-    uint16_t n, ac;
-    uint32_t status = hm_fractional_plan(SMALL_SIZE, LEVEL, SMALL_COLUMN, small_supply[HM_RECORD_SEVERITY], book,
-                                         book_len, &letter, &n, &ac, &share);
-    if (!is_answered("small lots", status))
+static size_t print_fractional_plan(const char *what, uint32_t size, uint32_t level) {
+    uint8_t letter, share, cut;
+    uint16_t n, ac, table_n;
+    uint32_t status = hm_fractional_plan(size, level, SMALL_COLUMN, small_supply[HM_RECORD_SEVERITY], book, book_len,
+                                         &letter, &n, &ac, &share, &table_n, &cut);
+    if (!is_answered(what, status))
         return 0;
-    printf("%-16s letter %c, n %u, Ac ", "small lots", HM_LETTERS[letter], n);
+    printf("%-16s letter %c, ", what, HM_LETTERS[letter]);
+    print_size(n, table_n, cut);
+    printf(", Ac ");
     if (share == HM_WHOLE_AC)
         printf("%u\n", ac);
     else
@@ -352,7 +368,8 @@ static void close_small(size_t n, size_t bad) {
 
 /* Two clean lots let one item of the third pass; the fourth has none before it. */
 static void close_small_lots(void) {
-    size_t n = print_fractional_plan();
+    size_t n = print_fractional_plan("small lots", SMALL_SIZE, LEVEL);
+    print_fractional_plan("small, lot of 2", 2, HM_LEVEL_III); /* letter B too, and fewer items than it has */
     judge_small(n, 1);
     close_small(n, 0);
     close_small(n, 0);
@@ -366,9 +383,10 @@ int main(void) {
     write_book("book, key twice", key_twice, sizeof key_twice); /* refused, and the book stays as it was */
     print_book();
     print_letter();
-    print_single_plan("plan, normal", HM_NORMAL);
-    print_single_plan("plan, tightened", HM_TIGHTENED);
-    print_single_plan("plan, reduced", HM_REDUCED);
+    print_single_plan("plan, normal", SIZE, COLUMN, HM_NORMAL);
+    print_single_plan("plan, tightened", SIZE, COLUMN, HM_TIGHTENED);
+    print_single_plan("plan, reduced", SIZE, COLUMN, HM_REDUCED);
+    print_single_plan("plan, lot of 10", 10, HM_AQL_0_10, HM_NORMAL);
     print_staged_plan();
     print_other_plans();
     judge_items();

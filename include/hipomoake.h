@@ -233,23 +233,27 @@ uint32_t hm_letter(uint32_t size, uint32_t level, uint8_t *letter);
 
 /*
  * The single sampling plan for a lot. Under reduced it comes from the book.
- *   letter  the letter that gives the size, HM_LETTER_A to HM_LETTER_S; under reduced that of Table 1
- *   n       items to inspect: the table's, under reduced the book's, or the whole lot where that is not more
- *   ac      accept when the sample's total is at most this
+ *   letter   the letter that gives the size, HM_LETTER_A to HM_LETTER_S; under reduced that of Table 1
+ *   n        items to inspect: table_n, or the whole lot where that is not more
+ *   ac       accept when the sample's total is at most this
+ *   table_n  the table's own size, under reduced the book's, as it stands there
+ *   cut      1 where table_n equals or exceeds the lot, so that n is the whole lot; else 0
  * Refuses 1 2 3 4 5 6 12.
  */
 uint32_t hm_plan(uint32_t size, uint32_t level, uint32_t column, uint32_t severity, const uint8_t *book,
-                 size_t book_len, uint8_t *letter, uint16_t *n, uint16_t *ac);
+                 size_t book_len, uint8_t *letter, uint16_t *n, uint16_t *ac, uint16_t *table_n, uint8_t *cut);
 
 /*
  * The single sampling plan for a lot in the mode of fractions.
  *   letter, n, ac  as of hm_plan where share is HM_WHOLE_AC
  *   share          HM_WHOLE_AC, which is 0; else HM_ONE_HALF, 2, or HM_ONE_THIRD, 3: then letter is that of Table 1, n
  *                  its size, or the whole lot where that is not more, and ac 0
+ *   table_n, cut   of n, as hm_plan tells them
  * Refuses 1 2 3 4 5 6 12; 6 also for a fraction at a column over 15.
  */
 uint32_t hm_fractional_plan(uint32_t size, uint32_t level, uint32_t column, uint32_t severity, const uint8_t *book,
-                            size_t book_len, uint8_t *letter, uint16_t *n, uint16_t *ac, uint8_t *share);
+                            size_t book_len, uint8_t *letter, uint16_t *n, uint16_t *ac, uint8_t *share,
+                            uint16_t *table_n, uint8_t *cut);
 
 /*
  * The staged plan for a lot, from the book.

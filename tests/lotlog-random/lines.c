@@ -32,23 +32,40 @@ static uint32_t draw_size(void) {
     return one_in(4) ? PICK(edges) : one_in(2) ? between(2, 200) : between(2, 100000);
 }
 
-/* A total at or beside the Ac of the normal or the tightened plan, or at most two thirds of it, or any. */
-static uint32_t draw_total(uint32_t size, uint32_t level, uint32_t column, bool good) {
+/* What the normal or the tightened table has for a lot; where it has nothing, a small plan. */
+struct plan {
+    uint16_t n, ac, table_n;
+};
+
+static struct plan draw_plan(uint32_t size, uint32_t level, uint32_t column) {
     static const uint8_t no_book[8] = {0};
-    uint8_t letter;
-    uint16_t n = 5, ac = 1;
-    ref_plan(size, level, column, below(2), no_book, sizeof no_book, &letter, &n, &ac);
+    struct plan plan = {5, 1, 5};
+    uint8_t letter, cut;
+    ref_plan(size, level, column, below(2), no_book, sizeof no_book, &letter, &plan.n, &plan.ac, &plan.table_n, &cut);
+    return plan;
+}
+
+/* A lot of as many items as its table size, or of one fewer or more; at times only its low 16 bits are so. */
+static uint32_t size_beside(uint32_t table_n) {
+    return table_n - 1 + below(3) + (one_in(10) ? between(1, 65535) << 16 : 0);
+}
+
+/* A total at or beside the Ac of the plan, or at most two thirds of it, or any. */
+static uint32_t draw_total(struct plan plan, bool good) {
     if (one_in(60))
-        return one_in(2) ? n + below(2) : any_number();
+        return one_in(2) ? plan.n + below(2) : any_number();
     if (one_in(4))
-        return between(ac > 0 ? ac - 1u : 0u, ac + 1u);
-    return good ? below(ac * 2u / 3 + 1) : ac + 1u + below(3);
+        return between(plan.ac > 0 ? plan.ac - 1u : 0u, plan.ac + 1u);
+    return good ? below(plan.ac * 2u / 3 + 1) : plan.ac + 1u + below(3);
 }
 
 static void draw_lot(bool good) {
     char letter = one_in(8) ? 'R' : 'L';
     uint32_t size = draw_size(), level = one_in(50) ? any_number() : below(7);
-    uint32_t column = one_in(50) ? any_number() : below(26), total = draw_total(size, level, column, good);
+    uint32_t column = one_in(50) ? any_number() : below(26);
+    if (one_in(6))
+        size = size_beside(draw_plan(size, level, column).table_n);
+    uint32_t total = draw_total(draw_plan(size, level, column), good);
     len = (size_t)sprintf(line, "%c %u %u %u %u", letter, (unsigned)size, (unsigned)level, (unsigned)column,
                           (unsigned)total);
 }

@@ -1,6 +1,7 @@
 /*
- * lotlog in plain C: document 01's program with getline and printf, on the independent reading's plans and record
- * (tests/terminal/reference.c). tests/lotlog-random compares the proved program with it, and benchmarks/run times both.
+ * lotlog in plain C: document 01's program, with T-05's W, by getline and printf on the independent reading's plans and
+ * record (tests/terminal/reference.c). tests/lotlog-random compares the proved program with it, and benchmarks/run
+ * times both.
  */
 #define _GNU_SOURCE
 #include "../terminal/reference.h"
@@ -58,15 +59,16 @@ static void print_refusal(unsigned long no, uint32_t number) {
     printf("%lu refused %u\n", no, (unsigned)number);
 }
 
+/* A W straight after n says that n is the whole lot. */
 static void log_lot(unsigned long no, bool resubmitted, const uint32_t *numbers) {
-    uint8_t severity = record[SEVERITY], letter, accepted;
-    uint16_t n, ac;
+    uint8_t severity = record[SEVERITY], letter, cut, accepted;
+    uint16_t n, ac, table_n;
     uint32_t number = ref_close_total(record, sizeof record, resubmitted, numbers[0], numbers[1], numbers[2],
-                                      numbers[3], &letter, &n, &ac, &accepted);
+                                      numbers[3], &letter, &n, &ac, &table_n, &cut, &accepted);
     if (number != 0)
         print_refusal(no, number);
     else
-        printf("%lu %c %c %u %u %s %c %u\n", no, "NTR"[severity], "ABCDEFGHJKLMNPQRS"[letter], n, ac,
+        printf("%lu %c %c %u%s %u %s %c %u\n", no, "NTR"[severity], "ABCDEFGHJKLMNPQRS"[letter], n, cut ? "W" : "", ac,
                accepted ? "accept" : "reject", "NTRX"[record[SEVERITY]], record[SCORE]);
 }
 

@@ -3,6 +3,7 @@
 
 #include "draw.h"
 #include "reference.h"
+#include "sizes.h"
 
 #include <string.h>
 
@@ -58,8 +59,11 @@ static unsigned draw_total(const struct call *c, unsigned usual, unsigned most) 
 
 /* ---- bodies */
 
+/* A size above the lot is cut to it; any is drawn where no sample is to be. */
 static void draw_reduced(struct call *c, struct plans *p) {
     p->reduced_n = most_of(draw_total(c, 30, 3150), 1);
+    if (tells_size(c->function) && one_in(4))
+        p->reduced_n = one_in(2) ? between(1, 3150) : least_of(most_of(c->size, 2) - 1, 3150);
     p->reduced_ac = one_in(20) ? between(0, 65534) : one_in(20) ? 65534 : below(5);
     put_book(c, p->reduced_n);
     put_book(c, p->reduced_ac);

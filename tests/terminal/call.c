@@ -6,6 +6,7 @@
 #include "draw.h"
 #include "packed.h"
 #include "reference.h"
+#include "sizes.h"
 
 #include <stdio.h>
 #include <string.h>
@@ -34,10 +35,10 @@ void set_lot(struct call *call, enum function function, uint32_t size, uint32_t 
 
 struct library {
     uint32_t (*letter)(uint32_t, uint32_t, uint8_t *);
-    uint32_t (*plan)(uint32_t, uint32_t, uint32_t, uint32_t, const uint8_t *, size_t, uint8_t *, uint16_t *,
-                     uint16_t *);
+    uint32_t (*plan)(uint32_t, uint32_t, uint32_t, uint32_t, const uint8_t *, size_t, uint8_t *, uint16_t *, uint16_t *,
+                     uint16_t *, uint8_t *);
     uint32_t (*fractional_plan)(uint32_t, uint32_t, uint32_t, uint32_t, const uint8_t *, size_t, uint8_t *, uint16_t *,
-                                uint16_t *, uint8_t *);
+                                uint16_t *, uint8_t *, uint16_t *, uint8_t *);
     uint32_t (*staged_plan)(uint32_t, uint32_t, uint32_t, uint32_t, const uint8_t *, size_t, uint8_t *, uint8_t *,
                             uint8_t *, size_t);
     uint32_t (*sequential_plan)(uint32_t, uint32_t, uint32_t, uint32_t, const uint8_t *, size_t, uint8_t *, uint16_t *,
@@ -219,10 +220,11 @@ static uint32_t run_plan(const struct library *of, const struct call *c, const u
     case LETTER:
         return of->letter(c->size, c->level, &a->letter);
     case PLAN:
-        return of->plan(c->size, c->level, c->column, c->severity, book, c->book_len, &a->letter, &a->n, &a->ac);
+        return of->plan(c->size, c->level, c->column, c->severity, book, c->book_len, &a->letter, &a->n, &a->ac,
+                        &a->table_n, &a->cut);
     case FRACTIONAL_PLAN:
         return of->fractional_plan(c->size, c->level, c->column, c->severity, book, c->book_len, &a->letter, &a->n,
-                                   &a->ac, &a->share);
+                                   &a->ac, &a->share, &a->table_n, &a->cut);
     case STAGED_PLAN:
         return of->staged_plan(c->size, c->level, c->column, c->severity, book, c->book_len, &a->letter, &a->stages,
                                out, c->out_len);
@@ -307,11 +309,11 @@ unsigned sample_total(const struct call *c) {
 
 /* The verdict on a fraction is held to T-01's own sentence as well. */
 static void count_fraction(const struct call *c, const struct answer *a) {
-    uint8_t letter, share;
-    uint16_t n, ac;
+    uint8_t letter, share, cut;
+    uint16_t n, ac, table_n;
     unsigned total = sample_total(c), clean = 0;
-    uint32_t status =
-        ref_fractional_plan(c->size, c->level, c->column, c->record[0], c->book, c->book_len, &letter, &n, &ac, &share);
+    uint32_t status = ref_fractional_plan(c->size, c->level, c->column, c->record[0], c->book, c->book_len, &letter, &n,
+                                          &ac, &share, &table_n, &cut);
     if (status != 0 || share == 0)
         return;
     if (c->record[CLEAN_LETTER] == letter && c->record[CLEAN_COLUMN] == c->column)
@@ -350,9 +352,10 @@ static void print_bytes(const char *name, const uint8_t *bytes, size_t len) {
 }
 
 static void print_side(const char *side, uint64_t status, const struct answer *a, const struct lent *out) {
-    printf("%s: status %u at %llu; letter %u n %u Ac %u share %u; accepted %u used %u byte %u; ", side,
+    printf("%s: status %u at %llu; letter %u n %u Ac %u share %u, the table's n %u cut %u; ", side,
            (unsigned)HM_LIST_NUMBER(status), (unsigned long long)HM_LIST_PLACE(status), a->letter, a->n, a->ac,
-           a->share, a->accepted, a->used, a->byte);
+           a->share, a->table_n, a->cut);
+    printf("accepted %u used %u byte %u; ", a->accepted, a->used, a->byte);
     printf("stages %u; hA %u hR %u g %u nt %u At %u; k %u; mean %g variance %g both %u; ", a->stages, a->ha, a->hr,
            a->g, a->nt, a->at, a->k, a->mean, a->variance, a->both);
     printf("written %u count %u numbers %u; record", (unsigned)a->written, (unsigned)a->count, (unsigned)a->numbers);
@@ -409,6 +412,8 @@ uint64_t run_both(const struct call *c, struct answer *a) {
         hold_to_reader(c, status, a);
     if (is_curtailed(c->function))
         hold_to_full_count(c, status, a);
+    if (status == 0 && tells_size(c->function))
+        hold_to_sizes(c, a);
     count(c, status, a);
     return status;
 }
@@ -477,6 +482,7 @@ bool summary(void) {
     bool ok = summary_of_fractions();
     ok = summary_of_books() && ok;
     ok = summary_of_curtailed() && ok;
+    ok = summary_of_sizes() && ok;
     unsigned long calls = 0;
     for (int f = 0; f < FUNCTIONS; f++) {
         ok = summary_of((enum function)f) && ok;

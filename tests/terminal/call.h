@@ -70,10 +70,10 @@ struct answer {
     double variance;
     uint64_t guard_2;
     uint16_t n, guard_3[3], ac, guard_4[3], used, guard_5[3], ha, guard_6[3], hr, guard_7[3], g, guard_8[3];
-    uint16_t nt, guard_9[3], at, guard_10[3], k, guard_11[3];
-    uint32_t written, guard_12, count, guard_13, numbers, guard_14;
-    uint8_t letter, guard_15[7], stages, guard_16[7], accepted, guard_17[7], both, guard_18[7], byte, guard_19[15];
-    uint8_t share, guard_20[7], record[RECORD_ROOM], guard_21[20];
+    uint16_t nt, guard_9[3], at, guard_10[3], k, guard_11[3], table_n, guard_12[3];
+    uint32_t written, guard_13, count, guard_14, numbers, guard_15;
+    uint8_t letter, guard_16[7], stages, guard_17[7], accepted, guard_18[7], both, guard_19[7], byte, guard_20[15];
+    uint8_t share, guard_21[7], cut, guard_22[7], record[RECORD_ROOM], guard_23[20];
 };
 
 /* A lot with an empty book and no sample yet. */

@@ -34,6 +34,12 @@ void curtailed_cases(void);
 /* T-04: every full sample of small plans has one beginning that is answered, and as the full count is. */
 void every_curtailed(void);
 
+/* T-05: worked plans that are the whole lot and plans that are not, by the tables, a book and a fraction. */
+void whole_lot_cases(void);
+
+/* T-05: every size of the tables and of a book beside lots of as many items, fewer and more, and past 16 bits. */
+void every_size(void);
+
 /* Every mixture of what a lot can be refused for, in each function that takes one. */
 void refusal_cases(void);
 

@@ -33,6 +33,8 @@ int main(int argc, char **argv) {
     round_trips();
     curtailed_cases();
     every_curtailed();
+    whole_lot_cases();
+    every_size();
     refusal_cases();
     history_cases();
     ok = summary() && ok;

@@ -102,11 +102,12 @@ static bool is_full_count(const struct call *c, const struct answer *a, const ui
 void hold_to_full_count(const struct call *c, uint64_t status, const struct answer *a) {
     static uint8_t sample[2 * MOST_N];
     uint32_t severity = c->function == CURTAILED ? c->severity : c->record[0];
-    uint8_t letter;
-    uint16_t n, ac;
+    uint8_t letter, cut;
+    uint16_t n, ac, table_n;
     if (status != 0 && status != 7 && status != 8)
         return;
-    if (severity > 1 || ref_plan(c->size, c->level, c->column, severity, c->book, c->book_len, &letter, &n, &ac) != 0) {
+    if (severity > 1 ||
+        ref_plan(c->size, c->level, c->column, severity, c->book, c->book_len, &letter, &n, &ac, &table_n, &cut) != 0) {
         report("a curtailed sample is looked at where the tables have no plan", c);
         return;
     }

@@ -6,6 +6,7 @@
 #include "packed.h"
 #include "reference.h"
 #include "rows.h"
+#include "sizes.h"
 
 #include <string.h>
 
@@ -57,6 +58,17 @@ static void aim_at_fraction(struct call *c) {
         c->column = s - letter;
 }
 
+/* A lot of as many items as its plan's own size, or of one fewer or more; at times only its low 16 bits are so. */
+static void aim_at_size(struct call *c) {
+    static const uint8_t no_book[8] = {0};
+    uint8_t letter, cut;
+    uint16_t n, ac, table_n;
+    uint32_t status =
+        ref_plan(c->size, c->level, c->column, c->severity, no_book, sizeof no_book, &letter, &n, &ac, &table_n, &cut);
+    if (status == 0)
+        c->size = table_n - 1u + below(3) + (one_in(8) ? between(1, 65535) << 16 : 0);
+}
+
 static void draw_lot(struct call *c) {
     bool low_columns = c->function == SEQUENTIAL || c->function == UPPER || c->function == LOWER ||
                        c->function == SEQUENTIAL_PLAN || c->function == VARIABLES_PLAN;
@@ -68,6 +80,8 @@ static void draw_lot(struct call *c) {
         aim_at_fraction(c);
     if ((in_mode(c->function) || is_curtailed(c->function)) && one_in(2))
         c->severity = below(2);
+    if (tells_size(c->function) && one_in(4))
+        aim_at_size(c);
 }
 
 /* ---- the record */
@@ -178,9 +192,11 @@ static unsigned total_near(unsigned ac, unsigned n, enum mood mood) {
 }
 
 static void draw_single_sample(struct call *c, enum mood mood) {
-    uint8_t letter;
-    uint16_t n, ac;
-    if (ref_plan(c->size, c->level, c->column, c->severity, c->book, c->book_len, &letter, &n, &ac) == 0)
+    uint8_t letter, cut;
+    uint16_t n, ac, table_n;
+    uint32_t status =
+        ref_plan(c->size, c->level, c->column, c->severity, c->book, c->book_len, &letter, &n, &ac, &table_n, &cut);
+    if (status == 0)
         put_items(c, n, total_near(ac, n, mood));
     else
         put_items(c, below(20), below(3));
@@ -200,9 +216,11 @@ static void draw_items_to_curtail(struct call *c, unsigned n, unsigned ac) {
 
 /* Ends with the item that decides; at times a sample goes on to n all the same. */
 static void draw_curtailed_sample(struct call *c, enum mood mood) {
-    uint8_t letter;
-    uint16_t n, ac;
-    if (ref_plan(c->size, c->level, c->column, c->severity, c->book, c->book_len, &letter, &n, &ac) != 0) {
+    uint8_t letter, cut;
+    uint16_t n, ac, table_n;
+    uint32_t status =
+        ref_plan(c->size, c->level, c->column, c->severity, c->book, c->book_len, &letter, &n, &ac, &table_n, &cut);
+    if (status != 0) {
         put_items(c, below(20), below(3));
         return;
     }
@@ -216,10 +234,10 @@ static void draw_curtailed_sample(struct call *c, enum mood mood) {
 
 /* On a fraction the total is 0, 1 or 2. */
 static void draw_fractional_sample(struct call *c, enum mood mood) {
-    uint8_t letter, share;
-    uint16_t n, ac;
-    uint32_t status =
-        ref_fractional_plan(c->size, c->level, c->column, c->severity, c->book, c->book_len, &letter, &n, &ac, &share);
+    uint8_t letter, share, cut;
+    uint16_t n, ac, table_n;
+    uint32_t status = ref_fractional_plan(c->size, c->level, c->column, c->severity, c->book, c->book_len, &letter, &n,
+                                          &ac, &share, &table_n, &cut);
     if (status != 0)
         put_items(c, below(20), below(3));
     else if (share == 0)

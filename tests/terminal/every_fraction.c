@@ -55,7 +55,9 @@ static void every_column(void) {
             run_both(&call, &answer);
             expect(answer.letter == plan.letter, "the letter of a plan in the mode of fractions");
             if (plan.share == 0)
-                expect(answer.n == plan.n && answer.ac == plan.ac, "a plan that is no fraction is the old one");
+                expect(answer.n == plan.n && answer.ac == plan.ac && answer.table_n == plan.table_n &&
+                           answer.cut == plan.cut,
+                       "a plan that is no fraction is the old one");
         }
 }
 

@@ -98,6 +98,7 @@ static void reduced_plans(void) {
         put_book(&call, entry[i]);
     expect(run_both(&call, &answer) == 0, "reduced, from the book");
     expect(answer.letter == G && answer.n == 13 && answer.ac == 1 && answer.share == WHOLE, "the plan of the book");
+    expect(answer.table_n == 13 && answer.cut == 0, "the size of the book, not cut");
     call.severity = NORMAL;
     expect(run_both(&call, &answer) == 0 && answer.n == 32 && answer.share == HALF, "normal, beside that book");
 }
@@ -363,6 +364,7 @@ static void close_annex_lot(const struct annex_lot *lot, uint8_t record[RECORD])
     expect(run_both(&call, &answer) == 0 && answer.letter == lot->letter && answer.n == lot->n,
            "ISO 2859-1 annex A in the mode of fractions: letter and sample size");
     expect(answer.ac == lot->ac && answer.share == lot->share, "ISO 2859-1 annex A: given Ac");
+    expect(answer.table_n == lot->n && answer.cut == 0, "ISO 2859-1 annex A: no lot is inspected whole");
     call.function = CLOSE_FRACTIONAL;
     call.record_len = RECORD;
     memcpy(call.record, record, RECORD);

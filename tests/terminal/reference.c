@@ -1,6 +1,7 @@
 /*
  * A plain reading of document 01, section by section, with the record kept from lot to lot, and of document 02: the
- * fractions of T-01, the score of T-02, the written book of T-03 and the curtailed count of T-04. See reference.h.
+ * fractions of T-01, the score of T-02, the written book of T-03, the curtailed count of T-04 and the table's own size
+ * of T-05. See reference.h.
  */
 #include "reference.h"
 
@@ -82,9 +83,12 @@ static int tightened_box(unsigned letter, unsigned column) {
     return ac[s - 18];
 }
 
-/* Of a fraction the share is 2 or 3, for one half and one third, and Ac is 0; of any other plan the share is 0. */
+/*
+ * Of a fraction the share is 2 or 3, for one half and one third, and Ac is 0; of any other plan the share is 0. The
+ * last two figures are known where the lot is: the size before it was cut to the lot, and 1 or 0 for whether it was.
+ */
 struct single_plan {
-    unsigned letter, n, ac, share;
+    unsigned letter, n, ac, share, table_n, cut;
 };
 
 static struct single_plan table_plan(unsigned letter, unsigned column, unsigned severity) {
@@ -92,7 +96,7 @@ static struct single_plan table_plan(unsigned letter, unsigned column, unsigned 
     int box;
     while ((box = box_at(letter, column)) < 0)
         letter += box == UP ? -1u : 1u;
-    return (struct single_plan){letter, table_sizes[letter], (unsigned)box, 0};
+    return (struct single_plan){letter, table_sizes[letter], (unsigned)box, 0, 0, 0};
 }
 
 /* The share of a box: a third and then a half stand between Ac 0 and Ac 1. 0 where the box is no fraction. */
@@ -344,8 +348,11 @@ static uint32_t add_items(const struct sample *sample, unsigned first, unsigned 
 
 /* ---- single sampling */
 
+/* A size that equals the lot is cut as well: the sample is then the whole lot. */
 static void cut_to_lot(const struct lot *lot, struct single_plan *plan) {
-    if (plan->n >= lot->size)
+    plan->table_n = plan->n;
+    plan->cut = plan->n >= lot->size;
+    if (plan->cut)
         plan->n = lot->size;
 }
 
@@ -410,7 +417,7 @@ static uint32_t find_fractional(const struct lot *lot, struct single_plan *plan)
         return find_single(lot, plan);
     if (lot->column > ITEMS_COLUMN)
         return 6;
-    *plan = (struct single_plan){lot->letter, table_sizes[lot->letter], 0, share};
+    *plan = (struct single_plan){lot->letter, table_sizes[lot->letter], 0, share, 0, 0};
     cut_to_lot(lot, plan);
     return 0;
 }
@@ -739,30 +746,33 @@ uint32_t ref_letter(uint32_t size, uint32_t level, uint8_t *letter) {
     return 0;
 }
 
-static uint32_t tell_single(uint32_t status, const struct single_plan *plan, uint8_t *letter, uint16_t *n,
-                            uint16_t *ac) {
+static uint32_t tell_single(uint32_t status, const struct single_plan *plan, uint8_t *letter, uint16_t *n, uint16_t *ac,
+                            uint16_t *table_n, uint8_t *cut) {
     if (status != 0)
         return status;
     *letter = (uint8_t)plan->letter;
     *n = (uint16_t)plan->n;
     *ac = (uint16_t)plan->ac;
+    *table_n = (uint16_t)plan->table_n;
+    *cut = (uint8_t)plan->cut;
     return 0;
 }
 
 uint32_t ref_plan(uint32_t size, uint32_t level, uint32_t column, uint32_t severity, const uint8_t *book,
-                  size_t book_len, uint8_t *letter, uint16_t *n, uint16_t *ac) {
+                  size_t book_len, uint8_t *letter, uint16_t *n, uint16_t *ac, uint16_t *table_n, uint8_t *cut) {
     struct lot lot = {.size = size, .level = level, .column = column, .severity = severity};
     struct single_plan plan;
     uint32_t status = open_lot(&lot, book, book_len);
-    return tell_single(status == 0 ? find_single(&lot, &plan) : status, &plan, letter, n, ac);
+    return tell_single(status == 0 ? find_single(&lot, &plan) : status, &plan, letter, n, ac, table_n, cut);
 }
 
 uint32_t ref_fractional_plan(uint32_t size, uint32_t level, uint32_t column, uint32_t severity, const uint8_t *book,
-                             size_t book_len, uint8_t *letter, uint16_t *n, uint16_t *ac, uint8_t *share) {
+                             size_t book_len, uint8_t *letter, uint16_t *n, uint16_t *ac, uint8_t *share,
+                             uint16_t *table_n, uint8_t *cut) {
     struct lot lot = {.size = size, .level = level, .column = column, .severity = severity};
     struct single_plan plan;
     uint32_t status = open_lot(&lot, book, book_len);
-    status = tell_single(status == 0 ? find_fractional(&lot, &plan) : status, &plan, letter, n, ac);
+    status = tell_single(status == 0 ? find_fractional(&lot, &plan) : status, &plan, letter, n, ac, table_n, cut);
     if (status == 0)
         *share = (uint8_t)plan.share;
     return status;
@@ -1013,8 +1023,8 @@ uint32_t ref_close_curtailed(uint8_t *record, size_t record_len, uint32_t resubm
 }
 
 uint32_t ref_close_total(uint8_t *record, size_t record_len, uint32_t resubmitted, uint32_t size, uint32_t level,
-                         uint32_t column, uint32_t total, uint8_t *letter, uint16_t *n, uint16_t *ac,
-                         uint8_t *accepted) {
+                         uint32_t column, uint32_t total, uint8_t *letter, uint16_t *n, uint16_t *ac, uint16_t *table_n,
+                         uint8_t *cut, uint8_t *accepted) {
     struct lot lot = {.size = size, .level = level, .column = column};
     struct record r;
     struct single_plan plan;
@@ -1030,11 +1040,8 @@ uint32_t ref_close_total(uint8_t *record, size_t record_len, uint32_t resubmitte
         return status;
     verdict = (struct verdict){total <= plan.ac, plan.n, total, 1};
     close_lot(record, &r, resubmitted, single_event(&lot, &plan, &verdict), no_clean, &byte);
-    *letter = (uint8_t)plan.letter;
-    *n = (uint16_t)plan.n;
-    *ac = (uint16_t)plan.ac;
     *accepted = (uint8_t)verdict.accepted;
-    return 0;
+    return tell_single(0, &plan, letter, n, ac, table_n, cut);
 }
 
 /* ---- the entries: a history, listed by a record that is moved by each byte */

@@ -1,5 +1,5 @@
 /*
- * A plain reading of document 01, and of T-01 to T-04 of document 02, in C, written from the documents alone. A ref_
+ * A plain reading of document 01, and of T-01 to T-05 of document 02, in C, written from the documents alone. A ref_
  * function answers as the hm_ function of the same name in hipomoake.h must. The last ones have none: lotlog's closing,
  * and the written reading of a history.
  */
@@ -11,9 +11,10 @@
 
 uint32_t ref_letter(uint32_t size, uint32_t level, uint8_t *letter);
 uint32_t ref_plan(uint32_t size, uint32_t level, uint32_t column, uint32_t severity, const uint8_t *book,
-                  size_t book_len, uint8_t *letter, uint16_t *n, uint16_t *ac);
+                  size_t book_len, uint8_t *letter, uint16_t *n, uint16_t *ac, uint16_t *table_n, uint8_t *cut);
 uint32_t ref_fractional_plan(uint32_t size, uint32_t level, uint32_t column, uint32_t severity, const uint8_t *book,
-                             size_t book_len, uint8_t *letter, uint16_t *n, uint16_t *ac, uint8_t *share);
+                             size_t book_len, uint8_t *letter, uint16_t *n, uint16_t *ac, uint8_t *share,
+                             uint16_t *table_n, uint8_t *cut);
 uint32_t ref_staged_plan(uint32_t size, uint32_t level, uint32_t column, uint32_t severity, const uint8_t *book,
                          size_t book_len, uint8_t *letter, uint8_t *stages, uint8_t *row, size_t row_len);
 uint32_t ref_sequential_plan(uint32_t size, uint32_t level, uint32_t column, uint32_t severity, const uint8_t *book,
@@ -63,11 +64,11 @@ uint32_t ref_screen(const uint8_t *readings, size_t readings_len, double *mean, 
 
 /*
  * lotlog's closing: a total in place of the sample, and no book, so that a lot under reduced is refused by 6. It tells
- * the plan as well.
+ * the plan as well, whole.
  */
 uint32_t ref_close_total(uint8_t *record, size_t record_len, uint32_t resubmitted, uint32_t size, uint32_t level,
-                         uint32_t column, uint32_t total, uint8_t *letter, uint16_t *n, uint16_t *ac,
-                         uint8_t *accepted);
+                         uint32_t column, uint32_t total, uint8_t *letter, uint16_t *n, uint16_t *ac, uint16_t *table_n,
+                         uint8_t *cut, uint8_t *accepted);
 
 /*
  * What stands beside a history byte for the clean run: in the mode of fractions, the lot's own letter, its column and

@@ -32,16 +32,17 @@ static unsigned tighter(unsigned ac) {
 
 /* The history byte of an accepted original lot. Outside normal no points are told. */
 static uint8_t accepted_byte(void) {
-    uint8_t letter, share = 0;
-    uint16_t n, ac;
+    uint8_t letter, share = 0, cut;
+    uint16_t n, ac, table_n;
     if (call.record[0] != 0)
         return 2;
     if (call.function == CLOSE_STAGED)
         return answer.used <= call.items_with_points ? 0 : 2;
     if (call.function == CLOSE_FRACTIONAL)
-        ref_fractional_plan(call.size, call.level, call.column, 0, call.book, call.book_len, &letter, &n, &ac, &share);
+        ref_fractional_plan(call.size, call.level, call.column, 0, call.book, call.book_len, &letter, &n, &ac, &share,
+                            &table_n, &cut);
     else
-        ref_plan(call.size, call.level, call.column, 0, call.book, call.book_len, &letter, &n, &ac);
+        ref_plan(call.size, call.level, call.column, 0, call.book, call.book_len, &letter, &n, &ac, &table_n, &cut);
     if (share != 0 || ac < 2)
         return 1;
     return sample_total(&call) <= tighter(ac) ? 0 : 2;

@@ -82,16 +82,17 @@ static enum function function_of(char kind) {
 
 /* How many items the plan takes: staged goes on after a bad item, curtailed ends with the one that is too many. */
 static unsigned items_for(const struct call *c, unsigned bad) {
-    uint8_t letter, share;
-    uint16_t n = 0, ac = 0;
+    uint8_t letter, share, cut;
+    uint16_t n = 0, ac = 0, table_n;
     if (c->function == SEQUENTIAL)
         return 1;
     if (c->function == CLOSE_STAGED)
         return bad > 0 ? 2 : 1;
     if (c->function == CLOSE_SINGLE || c->function == CLOSE_CURTAILED)
-        ref_plan(c->size, c->level, c->column, c->record[0], c->book, c->book_len, &letter, &n, &ac);
+        ref_plan(c->size, c->level, c->column, c->record[0], c->book, c->book_len, &letter, &n, &ac, &table_n, &cut);
     else
-        ref_fractional_plan(c->size, c->level, c->column, c->record[0], c->book, c->book_len, &letter, &n, &ac, &share);
+        ref_fractional_plan(c->size, c->level, c->column, c->record[0], c->book, c->book_len, &letter, &n, &ac, &share,
+                            &table_n, &cut);
     return c->function == CLOSE_CURTAILED && bad > ac ? ac + 1u : n;
 }
 

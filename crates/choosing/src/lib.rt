@@ -21,7 +21,6 @@ use plans::LetterAnswer;
 use plans::NO_PLAN;
 use plans::Outcome;
 use plans::REDUCED;
-use plans::SinglePlan;
 use plans::SinglePlanned;
 
 pub struct Refusal {
@@ -81,15 +80,9 @@ fn reduced_plan(lot: Asked, book: &[u8]) -> SinglePlanned
         Supplied::At(letter, place) => {
             let from = 2 * place;
             let held = entry::reduced_at(&book[from..]);
-            let n = plans::cut_to(lot.size, held.n);
-            let plan = SinglePlan {
-                letter,
-                n,
-                ac: held.ac,
-            };
             SinglePlanned {
                 answer: Outcome::Given,
-                plan,
+                plan: plans::cut_plan(lot.size, letter, held.n, held.ac),
             }
         }
     }

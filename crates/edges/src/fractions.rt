@@ -5,8 +5,8 @@ use super::NO_BOOK;
 use super::offered_of_l;
 use super::say;
 use super::say_answer;
-use super::say_letter;
 use super::say_number;
+use super::say_plan;
 use super::say_refusal;
 use super::sequential;
 use super::variables;
@@ -38,11 +38,7 @@ fn plan(case: &[u8], severity: u32, size: u32, level: u32, column: u32) {
     match answer {
         Outcome::Refused(number, place) => say_refusal(number, place),
         Outcome::Given => {
-            say_letter(found.plan.letter);
-            say(b", ");
-            say_number(found.plan.n as u64);
-            say(b", Ac ");
-            say_number(found.plan.ac as u64);
+            say_plan(found.plan);
             say(b", share ");
             say_number(found.share as u64);
             say(b"\n");

@@ -1,5 +1,5 @@
 // Every case of document 01's 'Worked at the edges' run through the public entries, each printed with its answer, and
-// cases of document 02, T-01 to T-04. (lotlog's listing is run by the program lotlog.)
+// cases of document 02, T-01 to T-05. (lotlog's listing is run by the program lotlog.)
 mod books;
 mod curtailed;
 mod fractions;
@@ -11,6 +11,7 @@ use libc::STDOUT_FILENO;
 use plans::Asked;
 use plans::LetterAnswer;
 use plans::Outcome;
+use plans::SinglePlan;
 use plans::VerdictAnswer;
 
 // Letters by their codes.
@@ -155,6 +156,19 @@ fn letter(case: &[u8], size: u32, level: u32) {
     }
 }
 
+// A size that is the whole lot has a W, and the table's own size beside it.
+fn say_plan(plan: SinglePlan) {
+    say_letter(plan.letter);
+    say(b", ");
+    say_number(plan.n as u64);
+    if plan.cut {
+        say(b"W of ");
+        say_number(plan.table_n as u64);
+    }
+    say(b", Ac ");
+    say_number(plan.ac as u64);
+}
+
 fn plan(case: &[u8], size: u32, level: u32, column: u32, severity: u32) {
     say(case);
     let lot = Asked {
@@ -168,11 +182,7 @@ fn plan(case: &[u8], size: u32, level: u32, column: u32, severity: u32) {
     match answer {
         Outcome::Refused(number, place) => say_refusal(number, place),
         Outcome::Given => {
-            say_letter(planned.plan.letter);
-            say(b", ");
-            say_number(planned.plan.n as u64);
-            say(b", Ac ");
-            say_number(planned.plan.ac as u64);
+            say_plan(planned.plan);
             say(b"\n");
         }
     }
@@ -339,6 +349,8 @@ fn single_plans() {
     plan(b"tightened R, 0.025: ", 500001, 6, 2, 1);
     plan(b"normal A, 10: ", 8, 5, 15, 0);
     plan(b"size 10, II, 0.10: ", 10, 5, 5, 0);
+    plan(b"size 125, II, 0.10: ", 125, 5, 5, 0);
+    plan(b"size 126, II, 0.10: ", 126, 5, 5, 0);
 }
 
 fn book_plans() {

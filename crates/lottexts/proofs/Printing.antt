@@ -5,14 +5,14 @@ use native.Mathlib.Omega.{arith}
 use native.Mathlib.Numerals.{add-one}
 use mathlib.Core.Path.{_≡_, refl, sym, ap, _∙_}
 use mathlib.Core.Bool.{Bool, true, false}
-use mathlib.Core.List.{List, [], _∷_, _++_, append-assoc}
+use mathlib.Core.List.{List, [], _∷_, _++_, append-nil, append-assoc}
 use lib.ListN.{length, drop, getD, set, length-append, drop-of-length-le, List·getD-eq-default}
 use lib.Seq.{sets, set-comm, drop-cons}
 use Rattle.rules.specs.Ascii.{ascii}
 use Rattle.rules.specs.Codes.{letterNames}
 use Rattle.rules.specs.Single.{Plan}
-use Rattle.rules.specs.Log.{decimal, space, newline, printed, refusedLine}
-use Rattle.rules.specs.Log.{orderPrinted, lotPrinted}
+use Rattle.rules.specs.Log.{decimal, space, newline, cutMark, sizeText, printed, refusedLine, orderPrinted}
+use Rattle.rules.specs.Log.{lotPrinted}
 use Rattle.rules.proofs.Decimals.{decimal-digit, decimal-last}
 use Rattle.rules.proofs.Stored.{sets-append}
 use Rattle.lottexts.specs.Printing.{Puts, severityByte, letterByte, afterText, namesText, planText}
@@ -124,32 +124,29 @@ pub names-text : (severity letter name byte : ℕ) → name ≡ severityByte sev
     → ((((space ∷ []) ++ (name ∷ [])) ++ (space ∷ [])) ++ (byte ∷ [])) ++ (space ∷ []) ≡ namesText severity letter
 names-text severity letter name byte e f = rw (e, f) refl
 
-pub accept-text : (n ac : ℕ) (accepted : Bool) → accepted ≡ true
-    → ((decimal n ++ (space ∷ [])) ++ decimal ac) ++ ascii " accept " ≡ planText n ac accepted
-accept-text n ac accepted e = rw e (simp append-assoc)
+-- the size, cut or not
+pub cut-text : (p : Plan) → p .cut ≡ true → decimal (p .n) ++ cutMark ≡ sizeText p
+cut-text p e = rw e
 
-pub reject-text : (n ac : ℕ) (accepted : Bool) → accepted ≡ false
-    → ((decimal n ++ (space ∷ [])) ++ decimal ac) ++ ascii " reject " ≡ planText n ac accepted
-reject-text n ac accepted e = rw e (simp append-assoc)
+pub uncut-text : (p : Plan) → p .cut ≡ false → decimal (p .n) ≡ sizeText p
+uncut-text p e = rw e (sym (append-nil (decimal (p .n))))
+
+pub accept-text : (p : Plan) (accepted : Bool) → accepted ≡ true
+    → ((sizeText p ++ (space ∷ [])) ++ decimal (p .ac)) ++ ascii " accept " ≡ planText p accepted
+accept-text p accepted e = rw e (simp append-assoc)
+
+pub reject-text : (p : Plan) (accepted : Bool) → accepted ≡ false
+    → ((sizeText p ++ (space ∷ [])) ++ decimal (p .ac)) ++ ascii " reject " ≡ planText p accepted
+reject-text p accepted e = rw e (simp append-assoc)
 
 pub lot-text : (line used : ℕ) (plan : Plan) (accepted : Bool) (severity score : ℕ)
-    → ((decimal line ++ namesText used (plan .letter)) ++ planText (plan .n) (plan .ac) accepted)
-    ++ afterText severity score
+    → ((decimal line ++ namesText used (plan .letter)) ++ planText plan accepted) ++ afterText severity score
     ≡ lotPrinted line used plan accepted severity score
 unfolding printed
 lot-text line used plan accepted severity score = go accepted
   where
     go : (t : Bool)
-        → ((decimal line ++ namesText used (plan .letter)) ++ planText (plan .n) (plan .ac) t)
-        ++ afterText severity score
+        → ((decimal line ++ namesText used (plan .letter)) ++ planText plan t) ++ afterText severity score
         ≡ lotPrinted line used plan t severity score
     go true = simp append-assoc
     go false = simp append-assoc
-
-pub plan-length : (n ac : ℕ) (accepted : Bool) → length (decimal n) ≤ 5 → length (decimal ac) ≤ 5
-    → length (planText n ac accepted) ≤ 19
-plan-length n ac accepted h k = go accepted
-  where
-    go : (t : Bool) → length (planText n ac t) ≤ 19
-    go true = simp length-append (omega arith)
-    go false = simp length-append (omega arith)

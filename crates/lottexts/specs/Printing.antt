@@ -7,11 +7,12 @@ use lib.ListN.{length, getD}
 use lib.Seq.{sets}
 use Rattle.rules.specs.Ascii.{ascii}
 use Rattle.rules.specs.Codes.{letterNames}
-use Rattle.rules.specs.Log.{decimal, space, newline}
+use Rattle.rules.specs.Single.{Plan}
+use Rattle.rules.specs.Log.{decimal, space, newline, sizeText}
 
 -- the lent array's length
 abbrev pub lineRoom : ℕ
-lineRoom = 50
+lineRoom = 51
 
 -- A run of bytes stored from a place on: the place after it, and the whole array, the rest of which stays. It fits.
 pub record Puts (at : ℕ) (text out last : List ℕ) (r : ℕ) : Type 0 where
@@ -31,5 +32,6 @@ afterText severity score = severityByte severity ∷ space ∷ (decimal score ++
 abbrev pub namesText : ℕ → ℕ → List ℕ
 namesText severity letter = space ∷ severityByte severity ∷ space ∷ letterByte letter ∷ space ∷ []
 
-abbrev pub planText : ℕ → ℕ → Bool → List ℕ
-planText n ac accepted = decimal n ++ (space ∷ (decimal ac ++ cond accepted (ascii " accept ") (ascii " reject ")))
+abbrev pub planText : Plan → Bool → List ℕ
+planText p accepted =
+    sizeText p ++ (space ∷ (decimal (p .ac) ++ cond accepted (ascii " accept ") (ascii " reject ")))

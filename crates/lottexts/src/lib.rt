@@ -3,15 +3,14 @@ ghost use mathlib.Core.Path.{_≡_};
 ghost use mathlib.Core.List.{[], _∷_};
 ghost use Prim.Native.Nat.{_+_, _<_, _≤_};
 ghost use lib.ListN.{length};
-ghost use Rattle.rules.specs.Log.{decimal, refusedLine, header};
-ghost use Rattle.rules.specs.Log.{orderPrinted, lotPrinted};
+ghost use Rattle.rules.specs.Log.{decimal, refusedLine, header, sizeText, orderPrinted, lotPrinted};
 ghost use Rattle.plans.specs.Paper.{planPaper};
 ghost use Rattle.lottexts.specs.Printing.{lineRoom, Puts, severityByte, letterByte, afterText, namesText};
 ghost use Rattle.lottexts.specs.Printing.{planText};
 use plans::SinglePlan;
 
 // The most bytes of a line.
-pub const LINE: usize = 50;
+pub const LINE: usize = 51;
 
 // How many digits a number has.
 fn digits(n: u64) -> usize
@@ -148,14 +147,27 @@ fn put_names(out: &mut [u8; LINE], at: usize, severity: u8, letter: u8) -> usize
     put_byte(out, lettered, b' ')
 }
 
-// Size and Ac, and the verdict between spaces.
-fn put_plan(out: &mut [u8; LINE], at: usize, n: u16, ac: u16, accepted: bool) -> usize
-    requires { ⌜ at + 19 ≤ lineRoom ⌝ }
-    ensures { λ r. ⌜ Puts at (planText n ac accepted) (now (out .entry)) (now (out .exit)) r × (r ≤ at + 19) ⌝ }
+// "a W straight after n on a cut line"
+fn put_size(out: &mut [u8; LINE], at: usize, plan: SinglePlan) -> usize
+    requires { ⌜ at + 6 ≤ lineRoom ⌝ }
+    ensures { λ r. ⌜ Puts at (sizeText (planPaper plan)) (now (out .entry)) (now (out .exit)) r × (r ≤ at + 6) ⌝ }
 {
-    let sized = put_number(out, at, n as u64);
+    let drawn = put_number(out, at, plan.n as u64);
+    if plan.cut {
+        return put_byte(out, drawn, b'W');
+    }
+    drawn
+}
+
+// Size and Ac, and the verdict between spaces.
+fn put_plan(out: &mut [u8; LINE], at: usize, plan: SinglePlan, accepted: bool) -> usize
+    requires { ⌜ at + 20 ≤ lineRoom ⌝ }
+    ensures { λ r. ⌜ Puts at (planText (planPaper plan) accepted) (now (out .entry)) (now (out .exit)) r
+        × (r ≤ at + 20) ⌝ }
+{
+    let sized = put_size(out, at, plan);
     let spaced = put_byte(out, sized, b' ');
-    let limited = put_number(out, spaced, ac as u64);
+    let limited = put_number(out, spaced, plan.ac as u64);
     if accepted {
         return put_text(out, limited, b" accept ");
     }
@@ -184,6 +196,6 @@ pub fn put_lot(
 {
     let counted = put_number(out, 0, line);
     let named = put_names(out, counted, used, plan.letter);
-    let planned = put_plan(out, named, plan.n, plan.ac, accepted);
+    let planned = put_plan(out, named, plan, accepted);
     put_after(out, planned, severity, score)
 }

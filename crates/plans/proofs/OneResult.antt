@@ -35,7 +35,7 @@ asked-one =
     (λ q. record { severity = q .severity; size = q .size; level = q .level; column = q .column }) (λ a. refl)
 
 abbrev pub planBack : paper.Plan → SinglePlan
-planBack p = record { letter = p .letter; n = p .n; ac = p .ac }
+planBack p = record { letter = p .letter; n = p .n; ac = p .ac; «table_n» = p .tableN; cut = p .cut }
 
 pub plan-one : (a b : SinglePlan) → planPaper a ≡ planPaper b → a ≡ b
 plan-one a b e = ap planBack e

@@ -1,6 +1,6 @@
 -- Document 01's numbers and values for each case of the code's types. Definitions only.
 use Prim.Native.Nat.{ℕ, _+_, _-_}
-use mathlib.Core.Bool.{cond}
+use mathlib.Core.Bool.{cond, false}
 use lib.Dec.{eqb}
 use Rattle.plans.specs.declared.Row.{Row}
 use Rattle.plans.specs.declared.Asked.{Asked}
@@ -36,7 +36,7 @@ abbrev pub arrowTo : ℕ → ℕ → ℕ
 arrowTo arrow letter = cond (eqb arrow 254) (letter + 1) (letter - 1)
 
 abbrev pub planPaper : SinglePlan → paper.Plan
-planPaper p = record { letter = p .letter; n = p .n; ac = p .ac }
+planPaper p = record { letter = p .letter; n = p .n; ac = p .ac; tableN = p .«table_n»; cut = p .cut }
 
 abbrev pub verdictPaper : Verdict → rules.Verdict
 verdictPaper v =
@@ -74,7 +74,7 @@ abbrev pub itself : {P : Type 0} → P → P
 itself p = p
 
 abbrev pub zeroPlan : paper.Plan
-zeroPlan = record { letter = 0; n = 0; ac = 0 }
+zeroPlan = record { letter = 0; n = 0; ac = 0; tableN = 0; cut = false }
 
 abbrev pub plannedPaper : SinglePlanned → Beside paper.Plan paper.Plan
 plannedPaper r = record { answer = outcomeOn (r .answer) (planPaper (r .plan)); plan = planPaper (r .plan) }

@@ -4,7 +4,7 @@ ghost use mathlib.Core.Path.{_≡_};
 ghost use Prim.Native.Nat.{_+_, _-_, _≤_, _<_};
 ghost use lib.ListN.{getD};
 ghost use Rattle.rules.specs.Codes.{tableOne, above, rowOf, letterOf, tableOneLetter};
-ghost use Rattle.rules.specs.Single.{sizes, rowAt, boxAt, landing, landingOf, cutTo, planAt, tighterAc};
+ghost use Rattle.rules.specs.Single.{sizes, rowAt, boxAt, landing, landingOf, planFrom, planAt, tighterAc};
 ghost use Rattle.rules.specs.Fractional.{shareAt, ownPlan};
 ghost use Rattle.rules.specs.Entries.{askedLetter, plainPlan, inFractions};
 ghost use Rattle.rules.specs.Refusals.{refused, andThen};
@@ -125,10 +125,13 @@ pub struct Asked {
     pub column: u32,
 }
 
+// The letter that gives the size, the items to draw, Ac; the table's own size, and whether it was cut to the lot.
 pub struct SinglePlan {
     pub letter: u8,
     pub n: u16,
     pub ac: u16,
+    pub table_n: u16,
+    pub cut: bool,
 }
 
 // A single plan in the mode of fractions: where the share is not 0, Ac is.
@@ -323,14 +326,26 @@ fn land(severity: u32, column: u32, letter: u8, left: u8) -> u8
     land(severity, column, arrow_to(cell, letter), left - 1)
 }
 
-// The size of a sample from a lot: a size at or above the lot is cut to it.
-pub fn cut_to(lot: u32, n: u16) -> u16
-    ensures { λ r. ⌜ r ≡ cutTo lot n ⌝ }
+// The plan of a lot by a letter, the size there and Ac: a size at or above the lot is cut to it.
+pub fn cut_plan(lot: u32, letter: u8, table_n: u16, ac: u16) -> SinglePlan
+    ensures { λ r. ⌜ planPaper r ≡ planFrom lot letter «table_n» ac ⌝ }
 {
-    if lot <= n as u32 {
-        return lot as u16;
+    if lot <= table_n as u32 {
+        return SinglePlan {
+            letter,
+            n: lot as u16,
+            ac,
+            table_n,
+            cut: true,
+        };
     }
-    n
+    SinglePlan {
+        letter,
+        n: table_n,
+        ac,
+        table_n,
+        cut: false,
+    }
 }
 
 // The size of a letter; past the last there is none.
@@ -349,20 +364,15 @@ fn plan_from(severity: u32, size: u32, column: u32, letter: u8) -> SinglePlan
     ensures { λ r. ⌜ planPaper r ≡ planAt size (landingOf severity column letter) ⌝ }
 {
     let at = land(severity, column, letter, 15);
-    let n = cut_to(size, size_of(at));
     let ac = box_at(severity, column, at) as u16;
-    SinglePlan { letter: at, n, ac }
+    cut_plan(size, at, size_of(at), ac)
 }
 
 // The plan of a letter's own box, with no arrow and Ac 0.
 fn own_plan(size: u32, letter: u8) -> SinglePlan
     ensures { λ r. ⌜ planPaper r ≡ ownPlan size letter ⌝ }
 {
-    SinglePlan {
-        letter,
-        n: cut_to(size, size_of(letter)),
-        ac: 0,
-    }
+    cut_plan(size, letter, size_of(letter), 0)
 }
 
 // The plan beside a refusal.
@@ -373,6 +383,8 @@ pub fn no_plan() -> SinglePlan
         letter: 0,
         n: 0,
         ac: 0,
+        table_n: 0,
+        cut: false,
     }
 }
 

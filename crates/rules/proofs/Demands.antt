@@ -5,4 +5,5 @@ pub mod Fractional
 pub mod Three
 pub mod Two
 pub mod TypedBooks
+pub mod WholeLot
 pub mod Writing

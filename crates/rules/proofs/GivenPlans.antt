@@ -1,12 +1,11 @@
 -- The plans that entries give: each has what the rules of its section give.
 -- Assumes nothing.
 use Prim.Native.Nat.{ℕ, suc, _≤_, _<_}
-use mathlib.Core.Path.{_≡_, refl, sym, ap}
-use mathlib.Core.Bool.{Bool, true, false, cond, _&&_}
+use mathlib.Core.Path.{_≡_, refl, sym, ap, subst}
+use mathlib.Core.Bool.{Bool, true, false, _&&_}
 use mathlib.Core.List.{List, [], _∷_}
-use native.Mathlib.Nat.{le-refl}
 use native.Mathlib.Omega.{arith}
-use borrow.Author.Tests.{eqb-true, eqb-false, leb-false}
+use borrow.Author.Tests.{eqb-true, eqb-false}
 use lib.ListN.{length, getD, take}
 use lib.Dec.{T, leb, eqb, leb→le}
 use Rattle.rules.specs.Refusals.{given}
@@ -17,7 +16,7 @@ use Rattle.rules.specs.Book.{variablesOf, couldHold}
 use Rattle.rules.specs.Book.{keyOf, keyFor}
 use Rattle.rules.specs.Numbers.{numbersOf, sumOf}
 use Rattle.rules.specs.Layout.{EntryIn}
-use Rattle.rules.specs.Single.{Plan, sizes, cutTo, tablePlan, landed, landing, landingOf, planAt, boxAt}
+use Rattle.rules.specs.Single.{Plan, Box, acOf, sizes, tablePlan, Landing, landed, landingOf, planAt, boxAt}
 use Rattle.rules.specs.Fractional.{FractionalPlan}
 use Rattle.rules.specs.Verdict.{Verdict, goesOn}
 use Rattle.rules.specs.Staged.{StagedPlan, stagesOf, totalSize, stageAt, stageDecides}
@@ -33,12 +32,12 @@ use Rattle.rules.specs.PlanRules.{Held}
 use Rattle.rules.proofs.Answers.{then-given}
 use Rattle.rules.proofs.Fractions.{InMode, whole, fraction, in-mode}
 use Rattle.rules.proofs.Bounded.{by-le, all, all-at, all-at₃, both-left, both-right}
-use Rattle.rules.proofs.Tables.{letter-within, landing-letter}
+use Rattle.rules.proofs.Tables.{letter-within, landing-letter, landing-box}
 use Rattle.rules.proofs.Deciding.{never-runs-out, never-past, sequence-decided}
 use Rattle.rules.proofs.Demands.Two.{staged-plan-given, sequential-plan-given, variables-plan-given}
 use Rattle.rules.proofs.Demands.Two.{single-plan-given}
 use Rattle.rules.proofs.LookUp.{found-in, found-under, found-held, entry-in-found}
-use Rattle.rules.proofs.HeldPlans.{SingleRight, cut-right, reduced-held}
+use Rattle.rules.proofs.HeldPlans.{SingleRight, cut-fits, reduced-held}
 use Rattle.rules.proofs.HeldPlans.{SequentialRight, sequential-held, VariablesRight}
 use Rattle.rules.proofs.HeldPlans.{variables-held, variables-could}
 use Rattle.rules.proofs.HeldStaged.{StagedRight, staged-held, staged-decides}
@@ -142,31 +141,31 @@ module _ (q : Asked) (book : List ℕ) where
       (r, variables-could p r)
 
 -- the plans of the tables: sizes 2 to 3,150, and Ac at most 44
-sized : ℕ → Bool
-sized letter = leb 1 (getD sizes letter 0) && leb (getD sizes letter 0) 3150
+inTable : ℕ → Bool
+inTable letter = leb 1 (getD sizes letter 0) && leb (getD sizes letter 0) 3150
 
-sized-all : T (all 17 sized)
-unfolding sized
-sized-all = tt
+all-in-table : T (all 17 inTable)
+unfolding inTable
+all-in-table = tt
 
 acBelow : ℕ → ℕ → ℕ → Bool
-acBelow severity column letter = leb (landingOf severity column letter .ac) 65534
+acBelow severity column letter = leb (acOf (boxAt severity column letter)) 65534
 
-ac-all : T (all 2 (λ severity. all 26 (λ column. all 16 (acBelow severity column))))
-unfolding acBelow landing boxAt
+ac-all : T (all 2 (λ severity. all 26 (λ column. all 17 (acBelow severity column))))
+unfolding acBelow boxAt
 ac-all = tt
 
 -- a plan at a letter, cut to the lot
 letter-right : (size letter ac : ℕ) → 2 ≤ size → letter < 17 → ac ≤ 65534 → SingleRight (planAt size (landed letter ac))
-unfolding sized
+unfolding inTable
 letter-right size letter ac z l low =
-    let t = all-at 17 sized sized-all letter l in
-    cut-right size (omega arith) (record { letter = letter; n = getD sizes letter 0; ac = ac })
-    (record {
+    let t = all-at 17 inTable all-in-table letter l in
+    record {
       some = leb→le 1 (getD sizes letter 0) (both-left (leb 1 (getD sizes letter 0)) _ t);
       few = leb→le (getD sizes letter 0) 3150 (both-right (leb 1 (getD sizes letter 0)) _ t);
       ac = low;
-    })
+      sizes = cut-fits size letter (getD sizes letter 0) ac z;
+    }
 
 table-right : (q : Asked) → q .severity < 2 → 2 ≤ q .size → q .column < 26
     → SingleRight (tablePlan (q .severity) (q .size) (q .level) (q .column))
@@ -174,9 +173,13 @@ unfolding tablePlan acBelow
 table-right q s z c =
     let letter : ℕ = letterOf (q .size) (q .level) in
     let l : letter < 16 = letter-within (q .size) (q .level) in
-    letter-right (q .size) (landingOf (q .severity) (q .column) letter .letter)
-    (landingOf (q .severity) (q .column) letter .ac) z (landing-letter (q .severity) (q .column) letter s c l)
-    (leb→le _ 65534 (all-at₃ 2 26 16 acBelow ac-all (q .severity) (q .column) letter s c l))
+    let at : Landing = landingOf (q .severity) (q .column) letter in
+    let low : acOf (boxAt (q .severity) (q .column) (at .letter)) ≤ 65534 =
+    leb→le _ 65534
+    (all-at₃ 2 26 17 acBelow ac-all (q .severity) (q .column) (at .letter) s c
+    (landing-letter (q .severity) (q .column) letter s c l)) in
+    letter-right (q .size) (at .letter) (at .ac) z (landing-letter (q .severity) (q .column) letter s c l)
+    (subst (λ (b : Box). acOf b ≤ 65534) (landing-box (q .severity) (q .column) letter s c l) low)
 
 -- a single plan, of a table or of the book
 pub single-given : (q : Asked) (book : List ℕ) (p : Plan) → singlePlan q book ≡ given p
@@ -191,7 +194,7 @@ single-given q book p h = go (eqb (q .severity) reduced) refl
         let b = s .from-book (eqb-true (q .severity) reduced t) in
         let k = found-held book (s .book-sound) reducedSection (omega arith) (q .severity)
         (letterOf (q .size) (q .level)) (q .column) (b .0) (b .1) in
-        rw (← b .2) (reduced-held q (omega (arith, s .lot .size)) (b .0) k)
+        rw (← b .2) (reduced-held q (s .lot .size) (b .0) k)
     go false t =
         let other : q .severity ≡ reduced → ⊥ = eqb-false (q .severity) reduced t in
         let low : q .severity < 2 =
@@ -214,28 +217,28 @@ fractional-given q book p h =
         (letter-right (q .size) (letterOf (q .size) (q .level)) 0 z
         (omega (arith, letter-within (q .size) (q .level))) (omega arith))
 
-cut-within : (lot n : ℕ) → cutTo lot n ≤ lot
-cut-within lot n = go (leb lot n) refl
-  where
-    go : (t : Bool) → leb lot n ≡ t → cond t lot n ≤ lot
-    go true e = le-refl lot
-    go false e = omega (arith, leb-false lot n e)
-
--- A single plan's Ac is the table's, or under reduced inspection that of the entry under the key; its size is never
--- above the lot.
+-- A single plan's size, before it is cut, and its Ac are those of the letter where the arrows end, or under reduced
+-- inspection of the entry under the key.
 module _ (q : Asked) (book : List ℕ) (p : Plan) (h : singlePlan q book ≡ given p) where
   planned : SinglePlanned q book p
   planned = single-plan-given q book p .0 h
 
-  pub table-ac : (q .severity ≡ reduced → ⊥)
-      → p .ac ≡ landingOf (q .severity) (q .column) (letterOf (q .size) (q .level)) .ac
+  pub table-figures : (q .severity ≡ reduced → ⊥)
+      → let l = landingOf (q .severity) (q .column) (letterOf (q .size) (q .level)) in
+      (p .letter ≡ l .letter) × (p .tableN ≡ getD sizes (l .letter) 0) × (p .ac ≡ l .ac)
   unfolding tablePlan
-  table-ac other = sym (ap (λ (x : Plan). x .ac) (planned .from-tables other))
+  table-figures other =
+      let e = sym (planned .from-tables other) in (
+        ap (λ (x : Plan). x .letter) e,
+        ap (λ (x : Plan). x .tableN) e,
+        ap (λ (x : Plan). x .ac) e,
+      )
 
-  pub reduced-ac : q .severity ≡ reduced
+  pub reduced-figures : q .severity ≡ reduced
       → (e : List ℕ) × EntryIn reducedSection (numbersOf book) e
-      × (take 2 e ≡ letterOf (q .size) (q .level) ∷ q .column ∷ []) × (p .ac ≡ getD e 3 0)
-  reduced-ac s =
+      × (take 2 e ≡ letterOf (q .size) (q .level) ∷ q .column ∷ [])
+      × (p .letter ≡ letterOf (q .size) (q .level)) × (p .tableN ≡ getD e 2 0) × (p .ac ≡ getD e 3 0)
+  reduced-figures s =
       let b = planned .from-book s in
       let good = planned .book-sound in (
         b .0,
@@ -243,15 +246,7 @@ module _ (q : Asked) (book : List ℕ) (p : Plan) (h : singlePlan q book ≡ giv
             (b .0) (b .1),
         found-under book good reducedSection (omega arith) (q .severity) (letterOf (q .size) (q .level)) (q .column)
             (b .0) (b .1),
+        sym (ap (λ (x : Plan). x .letter) (b .2)),
+        sym (ap (λ (x : Plan). x .tableN) (b .2)),
         sym (ap (λ (x : Plan). x .ac) (b .2)),
       )
-
-  pub single-cut : p .n ≤ q .size
-  unfolding tablePlan
-  single-cut = go (eqb (q .severity) reduced) refl
-    where
-      go : (t : Bool) → eqb (q .severity) reduced ≡ t → p .n ≤ q .size
-      go true t =
-          rw (← planned .from-book (eqb-true (q .severity) reduced t) .2) (cut-within (q .size) _)
-      go false t =
-          rw (← planned .from-tables (eqb-false (q .severity) reduced t)) (cut-within (q .size) _)

@@ -2,6 +2,7 @@
 -- Assumes nothing.
 use Prim.Native.Nat.{ℕ, _+_, _*_, _-_, _/_, _≤_, _<_}
 use mathlib.Core.Path.{_≡_, refl, ap, sym, _∙_}
+use mathlib.Core.Logic.{inl, inr}
 use mathlib.Core.Bool.{Bool, true, false, cond}
 use mathlib.Core.List.{List, [], _∷_}
 use native.Mathlib.Omega.{arith}
@@ -13,14 +14,14 @@ use Rattle.rules.specs.Book.{Kind, Range, within, anything, right, numbe
 use Rattle.rules.specs.Book.{reducedSingles, sequential, sequentialRule, variables, atFits}
 use Rattle.rules.specs.Book.{sequentialOf, variablesOf}
 use Rattle.rules.specs.Codes.{letterOf}
-use Rattle.rules.specs.Single.{Plan, cutTo}
+use Rattle.rules.specs.Single.{Plan, planFrom}
 use Rattle.rules.specs.Sequential.{SequentialPlan, onAcceptLine, onRejectLine, itemDecides}
 use Rattle.rules.specs.Verdict.{accepts, rejects}
 use Rattle.rules.specs.Numbers.{numbersOf}
 use Rattle.rules.specs.Book.{checkBook, sound, kinds, kindAt, lookUp, Found, found, nothing}
 use Rattle.rules.specs.Variables.{VariablesPlan}
 use Rattle.rules.specs.Entries.{Asked, variablesEntry, reducedPlan}
-use Rattle.rules.specs.PlanRules.{Held}
+use Rattle.rules.specs.PlanRules.{Held, SizesFit}
 pub use Rattle.rules.specs.PlanRules.{SingleRight, VariablesRight, SequentialRight}
 use Rattle.rules.proofs.Bools.{and-left, and-right}
 use Rattle.rules.proofs.Bounded.{by-le}
@@ -63,27 +64,32 @@ variables-could p r =
       le-leb (p .k) 4000 (r .high),
     )
 
-single-held : (e : List ℕ) → Held reducedSingles e → (letter : ℕ)
-    → SingleRight (record { letter = letter; n = getD e 2 0; ac = getD e 3 0 })
-single-held e h letter =
-    let a = in-range reducedSingles e h 2 (omega arith) in
-    let b = in-range reducedSingles e h 3 (omega arith) in
-    record { some = a .0; few = a .1; ac = b .1 }
-
--- a cut to the lot keeps a plan right
-pub cut-right : (lot : ℕ) → 1 ≤ lot → (p : Plan) → SingleRight p
-    → SingleRight (record { letter = p .letter; n = cutTo lot (p .n); ac = p .ac })
-cut-right lot s p r = go (leb lot (p .n)) refl
+-- the sizes of a plan from a lot of two items or more fit each other, ..
+pub cut-fits : (lot letter n ac : ℕ) → 2 ≤ lot → SizesFit (planFrom lot letter n ac)
+cut-fits lot letter n ac two = go (leb lot n) refl
   where
-    go : (t : Bool) → leb lot (p .n) ≡ t
-        → SingleRight (record { letter = p .letter; n = cond t lot (p .n); ac = p .ac })
-    go true t = record { some = s; few = omega (arith, leb-true lot (p .n) t, r .few); ac = r .ac }
-    go false t = r
+    go : (t : Bool) → leb lot n ≡ t
+        → SizesFit (record { letter = letter; n = cond t lot n; ac = ac; tableN = n; cut = t })
+    go true t = inr (refl, two, leb-true lot n t)
+    go false t = inl (refl, refl)
 
-pub reduced-held : (q : Asked) → 1 ≤ q .size → (e : List ℕ) → Held reducedSingles e → SingleRight (reducedPlan q e)
-reduced-held q s e h =
-    cut-right (q .size) s (record { letter = letterOf (q .size) (q .level); n = getD e 2 0; ac = getD e 3 0 })
-    (single-held e h (letterOf (q .size) (q .level)))
+-- .. and n is in the range of the table's own
+pub sized : (p : Plan) → SingleRight p → (1 ≤ p .n) × (p .n ≤ 3150)
+sized p r = on (r .sizes)
+  where
+    on : SizesFit p → (1 ≤ p .n) × (p .n ≤ 3150)
+    on (inl uncut) = (omega (arith, r .some, uncut .1), omega (arith, r .few, uncut .1))
+    on (inr cut) = (omega (arith, cut .1), omega (arith, r .few, cut .2))
+
+pub reduced-held : (q : Asked) → 2 ≤ q .size → (e : List ℕ) → Held reducedSingles e → SingleRight (reducedPlan q e)
+reduced-held q two e h =
+    let a = in-range reducedSingles e h 2 (omega arith) in
+    record {
+      some = a .0;
+      few = a .1;
+      ac = in-range reducedSingles e h 3 (omega arith) .1;
+      sizes = cut-fits (q .size) (letterOf (q .size) (q .level)) (getD e 2 0) (getD e 3 0) two;
+    }
 
 fits-accepts : (hA hR g nt x d : ℕ) → atFits hA hR g nt x ≡ true → leb (100000 * d + 100 * hA) (g * nt) ≡ true → d ≤ x
 unfolding atFits

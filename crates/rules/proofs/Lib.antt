@@ -60,6 +60,7 @@ pub mod Supplies
 pub mod Switches
 pub mod Tables
 pub mod Terminal
+pub mod TextBytes
 pub mod Walks
 pub mod Window
 pub mod Worked
@@ -67,4 +68,5 @@ pub mod WorkedBooks
 pub mod WorkedCurtailed
 pub mod WorkedFractions
 pub mod WorkedRows
+pub mod WorkedWholeLots
 pub mod Written

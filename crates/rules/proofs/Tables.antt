@@ -2,7 +2,7 @@
 -- the box one column tighter.
 -- Assumes nothing.
 use Prim.Native.Nat.{ℕ, zero, suc, _+_, _-_, _≤_, _<_}
-use mathlib.Core.Path.{_≡_, refl, ap, subst}
+use mathlib.Core.Path.{_≡_, refl, sym, ap, subst}
 use mathlib.Core.Bool.{Bool, true, false, cond, _&&_}
 use mathlib.Core.List.{List, [], _∷_}
 use native.Mathlib.Omega.{arith}
@@ -194,38 +194,30 @@ up-positive severity column zero s c e =
     absurd (subst (λ (b : Box). T (notUp b)) e (all-at₂ 2 26 downAtA down-at-A severity column s c))
 up-positive severity column (suc letter) s c e = omega arith
 
--- of a normal Ac of 2 or more
-column : ℕ → ℕ → Bool
-column c l = implies (leb 2 (landingOf normal c l .ac)) (leb 1 c)
-
-column-all : T (all 26 (λ c. all 16 (column c)))
-unfolding column landing boxAt
-column-all = tt
-
+-- of a box with a normal Ac of 2 or more
 tighter : ℕ → ℕ → Bool
 tighter c l =
-    implies (leb 2 (landingOf normal c l .ac))
-    (holds (boxAt normal (c - 1) (landingOf normal c l .letter)) (tighterAc (landingOf normal c l .letter) c))
+    implies (leb 2 (acOf (boxAt normal c l))) (leb 1 c && holds (boxAt normal (c - 1) l) (tighterAc l c))
 
-tighter-all : T (all 26 (λ c. all 16 (tighter c)))
-unfolding tighter holds landing boxAt tighterAc
+tighter-all : T (all 26 (λ c. all 17 (tighter c)))
+unfolding tighter holds boxAt tighterAc
 tighter-all = tt
 
 module _ (c l : ℕ) (g : c < 26) (h : l < 16) (two : 2 ≤ landingOf normal c l .ac) where
+  abbrev at : ℕ
+  at = landingOf normal c l .letter
+
+  both : T (leb 1 c && holds (boxAt normal (c - 1) at) (tighterAc at c))
+  unfolding tighter
+  both =
+      implies-at (leb 2 (acOf (boxAt normal c at))) _
+      (all-at₂ 26 17 tighter tighter-all c at g (landing-letter normal c l (omega arith) g h))
+      (le→leb _ _ (subst (λ (b : Box). 2 ≤ acOf b) (sym (landing-box normal c l (omega arith) g h)) two))
+
   -- A normal Ac of 2 or more has a column one tighter ..
   pub tighter-column : 1 ≤ c
-  unfolding column
-  tighter-column =
-      leb→le _ _
-      (implies-at (leb 2 (landingOf normal c l .ac)) (leb 1 c)
-      (all-at₂ 26 16 column column-all c l g h) (le→leb _ _ two))
+  tighter-column = leb→le _ _ (both-left (leb 1 c) _ both)
 
   -- .. and a number there, at the letter that gives the size.
-  pub one-tighter : boxAt normal (c - 1) (landingOf normal c l .letter)
-      ≡ number (tighterAc (landingOf normal c l .letter) c)
-  unfolding tighter
-  one-tighter =
-      holds-it _ _
-      (implies-at (leb 2 (landingOf normal c l .ac))
-      (holds (boxAt normal (c - 1) (landingOf normal c l .letter)) (tighterAc (landingOf normal c l .letter) c))
-      (all-at₂ 26 16 tighter tighter-all c l g h) (le→leb _ _ two))
+  pub one-tighter : boxAt normal (c - 1) at ≡ number (tighterAc at c)
+  one-tighter = holds-it _ _ (both-right (leb 1 c) _ both)

@@ -119,7 +119,7 @@ fromBelow : List ℤ → ℕ → ℕ → List ℕ
 fromBelow xs l k = yesNo (acceptsReadings false (record { n = 3; k = k }) (pos l) xs) ∷ []
 
 planned : Plan → List ℕ
-planned p = p .letter ∷ p .n ∷ p .ac ∷ []
+planned p = p .letter ∷ p .n ∷ p .ac ∷ p .tableN ∷ yesNo (p .cut) ∷ []
 
 -- a refusal of the screen; what it shows stands in a list of its own
 notShown : Answer Shown → List ℕ
@@ -128,7 +128,7 @@ notShown (given s) = []
 
 pub edgeCases : List (Case (List ℕ))
 edgeCases =
-    (planned (tablePlan normal 10 5 5) is (9 ∷ 10 ∷ 0 ∷ []))
+    (planned (tablePlan normal 10 5 5) is (9 ∷ 10 ∷ 0 ∷ 125 ∷ 1 ∷ []))
     ∷ (staged (replicate 6 0) is (1 ∷ 6 ∷ []))
     ∷ (staged (1 ∷ 0 ∷ 0 ∷ 1 ∷ 0 ∷ 0 ∷ 0 ∷ 0 ∷ 0 ∷ 0 ∷ 0 ∷ 0 ∷ 1 ∷ 0 ∷ 0 ∷ []) is (1 ∷ 15 ∷ []))
     -- at least Re rejects; nothing may follow; a half item; whichever of 7 and 8 is met first

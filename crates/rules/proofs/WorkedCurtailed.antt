@@ -1,6 +1,6 @@
 -- Document 02, T-04, worked: samples on the tables' plans at each end of the walk, its refusals, and lots closed.
 -- Assumes nothing.
-use Prim.Native.Nat.{ℕ}
+use Prim.Native.Nat.{ℕ, suc}
 use mathlib.Core.Path.{refl}
 use mathlib.Core.Bool.{Bool, true, false, cond}
 use mathlib.Core.List.{List, [], _∷_, _++_}
@@ -9,7 +9,7 @@ use Rattle.rules.specs.Refusals.{Answer, refused, given}
 use Rattle.rules.specs.Codes.{normal, tightened, reduced, stopped, letterOf, rowOf, rowFrom}
 use Rattle.rules.specs.Numbers.{numbersOf, numberBytes}
 use Rattle.rules.specs.Verdict.{Verdict, Judged}
-use Rattle.rules.specs.Single.{Plan, landing, boxAt, tablePlan, tighterAc}
+use Rattle.rules.specs.Single.{Plan, planFrom, landing, boxAt, tablePlan, tighterAc}
 use Rattle.rules.specs.Curtailed.{curtailedFrom, judgeUntilLost}
 use Rattle.rules.specs.Fractional.{shareIn, shareAt, hasFractionalPlan}
 use Rattle.rules.specs.Severity.{onNormal, onTightened, onLot, onResubmitted, step, figuresInRange}
@@ -55,10 +55,10 @@ counts items = judgedIn noBook normal 8 5 21 (numberBytes items)
 wholeLot : List ℕ → List ℕ
 wholeLot items = judgedIn noBook normal 10 5 5 (numberBytes items)
 
--- a plan handed over: so many items, and Ac
+-- a plan handed over: so many items, from a lot that has one more, and Ac
 onPlan : ℕ → ℕ → ℕ → List ℕ → List ℕ
 onPlan column n ac items =
-    verdictAs (curtailedSample column (record { letter = 0; n = n; ac = ac }) (numberBytes items))
+    verdictAs (curtailedSample column (planFrom (suc n) 0 n ac) (numberBytes items))
 
 threeBad : List ℕ
 threeBad = replicate 7 0 ++ (1 ∷ 1 ∷ 1 ∷ [])

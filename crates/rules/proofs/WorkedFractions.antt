@@ -46,12 +46,18 @@ reducedBook = numberBytes (1 ∷ the "B" ∷ 15 ∷ 2 ∷ 1 ∷ 0 ∷ 0 ∷ 0 �
 abbrev asked : ℕ → ℕ → ℕ → ℕ → Asked
 asked severity size level column = record { severity = severity; size = size; level = level; column = column }
 
--- the plan that the mode gives (levels 5 and 6 are II and III), and a plan: its letter, n, Ac and share
+-- the plan that the mode gives (levels 5 and 6 are II and III), and a plan: its letter, n, Ac and share; or a plan that
+-- is the whole lot, with the table's own size after n
 abbrev planned : ℕ → ℕ → ℕ → ℕ → Answer FractionalPlan
 planned severity size level column = fractionalPlan (asked severity size level column) noBook
 
 abbrev plan : String → ℕ → ℕ → ℕ → Answer FractionalPlan
-plan name n ac share = given (planOfShare (record { letter = the name; n = n; ac = ac }) share)
+plan name n ac share =
+    given (planOfShare (record { letter = the name; n = n; ac = ac; tableN = n; cut = false }) share)
+
+abbrev whole : String → ℕ → ℕ → ℕ → ℕ → Answer FractionalPlan
+whole name n tableN ac share =
+    given (planOfShare (record { letter = the name; n = n; ac = ac; tableN = tableN; cut = true }) share)
 
 pub planCases : List (Case (Answer FractionalPlan))
 planCases =
@@ -86,11 +92,12 @@ planCases =
     ∷ (planned tightened 1000000 6 0 is plan "R" 2000 0 0)
     ∷ (planned tightened 8 6 17 is plan "B" 3 1 0)
     ∷ (planned tightened 1000000 6 3 is plan "R" 2000 1 0)
-    -- the size is cut to the lot, on a fraction too
-    ∷ (planned normal 2 6 15 is plan "B" 2 0 half)
-    ∷ (planned normal 3 6 15 is plan "B" 3 0 half)
-    ∷ (planned tightened 2 6 15 is plan "B" 2 0 third)
-    ∷ (planned normal 2 6 16 is plan "B" 2 1 0)
+    -- the size is cut to the lot, on a fraction too; one equal to the lot counts as cut
+    ∷ (planned normal 2 6 15 is whole "B" 2 3 0 half)
+    ∷ (planned normal 3 6 15 is whole "B" 3 3 0 half)
+    ∷ (planned normal 4 6 15 is plan "B" 3 0 half)
+    ∷ (planned tightened 2 6 15 is whole "B" 2 3 0 third)
+    ∷ (planned normal 2 6 16 is whole "B" 2 3 1 0)
     -- reduced: the book's entry, at a box that is a fraction under normal; none
     ∷ (fractionalPlan (asked reduced 8 6 15) reducedBook is plan "B" 2 1 0)
     ∷ (fractionalPlan (asked reduced 8 6 14) reducedBook is refused 6 0)

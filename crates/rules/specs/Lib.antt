@@ -35,7 +35,8 @@ pub mod Printed
 pub mod Feeding
 -- Words of theorems: what the plans of a sound book keep; what demand 2 says of refusals, samples, plans, points and
 -- entries that are written; what demand 3 says of a run of calls, of points in it, of stays, of changes of severity and
--- of lotlog. No promise is written in these; they are read to know what the theorems claim.
+-- of lotlog; what a plan tells of its size. No promise is written in these; they are read to know what the theorems
+-- claim.
 pub mod PlanRules
 pub mod Reporting
 pub mod Judging
@@ -45,3 +46,4 @@ pub mod Writable
 pub mod Runs
 pub mod Switching
 pub mod LogRuns
+pub mod WholeLot

@@ -164,13 +164,20 @@ printed field (f ∷ fs) = field ++ (space ∷ printed f fs)
 abbrev pub refusedLine : ℕ → ℕ → List ℕ
 refusedLine line number = printed (decimal line) (ascii "refused" ∷ decimal number ∷ [])
 
+-- document 02, T-05: "lotlog prints a W straight after n on a cut line"
+abbrev pub cutMark : List ℕ
+cutMark = ascii "W"
+
+abbrev pub sizeText : Plan → List ℕ
+sizeText plan = decimal (plan .n) ++ cond (plan .cut) cutMark []
+
 -- "line, severity used (N, T, R), letter, size, Ac, verdict, severity after (N, T, R, or X stopped), score after"
 abbrev pub lotPrinted : ℕ → ℕ → Plan → Bool → ℕ → ℕ → List ℕ
 lotPrinted line used plan accepted severity score =
     printed (decimal line)
     (severityName used
     ∷ letterName (plan .letter)
-    ∷ decimal (plan .n)
+    ∷ sizeText plan
     ∷ decimal (plan .ac)
     ∷ verdictName accepted
     ∷ severityName severity

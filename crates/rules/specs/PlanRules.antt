@@ -2,7 +2,8 @@
 -- Definitions only.
 use Prim.Native.Nat.{ℕ, suc, _+_, _*_, _-_, _≤_, _<_}
 use mathlib.Core.Path.{_≡_}
-use mathlib.Core.Bool.{true}
+use mathlib.Core.Logic.{_⊎_}
+use mathlib.Core.Bool.{true, false}
 use mathlib.Core.List.{List}
 use lib.ListN.{length, getD}
 use Rattle.rules.specs.Single.{Plan}
@@ -16,11 +17,17 @@ pub record Held (k : Kind) (e : List ℕ) : Type 0 where
   pub whole : sizeOf k e ≤ length e
   pub each : (p : ℕ) → p < sizeOf k e → right k e p ≡ true
 
--- "n 1 to 3,150, Ac up to 65,534"
+-- Document 02, T-05: n is the table's own size where that is not cut, and else a lot, of two items or more, that is at
+-- most the table's own size.
+abbrev pub SizesFit : Plan → Type 0
+SizesFit p = ((p .cut ≡ false) × (p .n ≡ p .tableN)) ⊎ ((p .cut ≡ true) × (2 ≤ p .n) × (p .n ≤ p .tableN))
+
+-- "n 1 to 3,150, Ac up to 65,534", the size before it is cut
 pub record SingleRight (p : Plan) : Type 0 where
-  pub some : 1 ≤ p .n
-  pub few : p .n ≤ 3150
+  pub some : 1 ≤ p .tableN
+  pub few : p .tableN ≤ 3150
   pub ac : p .ac ≤ 65534
+  pub sizes : SizesFit p
 
 -- "n is 2 to 50, K .. is 1 to 4,000"
 pub record VariablesRight (p : VariablesPlan) : Type 0 where

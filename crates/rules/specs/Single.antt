@@ -1,7 +1,8 @@
--- Document 01, 'Single plans': sizes, the two master tables as printed, arrows, the cut to the lot, acceptance.
+-- Document 01, 'Single plans': sizes, the two master tables as printed, arrows, the cut to the lot, acceptance; and
+-- document 02, T-05, 'Say when it is the whole lot'.
 -- Definitions only.
 use Prim.Native.Nat.{ℕ, zero, suc, _+_, _*_, _-_}
-use mathlib.Core.Bool.{cond, _&&_, not}
+use mathlib.Core.Bool.{Bool, cond, _&&_, not}
 use mathlib.Core.List.{List, [], _∷_, map}
 use lib.Dec.{leb, eqb}
 use lib.ListN.{length, getD}
@@ -133,18 +134,30 @@ arrows = 15
 abbrev pub landingOf : ℕ → ℕ → ℕ → Landing
 landingOf severity column letter = landing arrows severity column letter
 
--- A single plan: the letter that gives the size, the size as it is drawn from the lot, and Ac.
+-- A single plan: the letter that gives the size, the size as it is drawn from the lot, and Ac; "the table's own size",
+-- which is the book's under reduced inspection, and "whether the size was cut to the lot".
 pub record Plan : Type 0 where
   pub letter : ℕ
   pub n : ℕ
   pub ac : ℕ
+  pub tableN : ℕ
+  pub cut : Bool
 
--- "If the size equals or exceeds the lot, it becomes the lot size and Ac stays."
+-- "If the size equals or exceeds the lot"; "A table size equal to the lot counts as cut."
+abbrev pub isCut : ℕ → ℕ → Bool
+isCut lot tableN = leb lot tableN
+
+-- "it becomes the lot size and Ac stays"
 abbrev pub cutTo : ℕ → ℕ → ℕ
-cutTo lot n = cond (leb lot n) lot n
+cutTo lot tableN = cond (isCut lot tableN) lot tableN
+
+-- the plan of a lot: a letter, the size there and Ac, of a table or of a book
+abbrev pub planFrom : ℕ → ℕ → ℕ → ℕ → Plan
+planFrom lot letter tableN ac =
+    record { letter = letter; n = cutTo lot tableN; ac = ac; tableN = tableN; cut = isCut lot tableN }
 
 abbrev pub planAt : ℕ → Landing → Plan
-planAt lot l = record { letter = l .letter; n = cutTo lot (getD sizes (l .letter) 0); ac = l .ac }
+planAt lot l = planFrom lot (l .letter) (getD sizes (l .letter) 0) (l .ac)
 
 -- the plan of a lot that the tables hold: normal or tightened
 unfoldable pub tablePlan : ℕ → ℕ → ℕ → ℕ → Plan

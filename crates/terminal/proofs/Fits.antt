@@ -42,6 +42,7 @@ use Rattle.rules.proofs.Refusals.{nothing-wrong, refused-place}
 use Rattle.rules.proofs.EntryLaws.{on-book}
 use Rattle.rules.proofs.Deciding.{never-past}
 use Rattle.rules.proofs.LookUp.{broken-unsound}
+use Rattle.rules.proofs.HeldPlans.{sized}
 use Rattle.rules.proofs.GivenPlans.{single-given, fractional-given, staged-given, sequential-given, variables-given}
 use Rattle.rules.proofs.Demands.Two as two
 use Rattle.rules.proofs.Demands.Curtailed as curtailed
@@ -124,7 +125,7 @@ module _ (q : Asked) (book sample : List ℕ) where
   single-used j e =
       let g = two.judge-single-given q book sample j .0 e in
       let u : j .plan .n ≡ j .verdict .used = ap (λ (v : Verdict). v .used) (g .1 .verdict) in
-      omega (arith, single-given q book (j .plan) (g .0) .few)
+      omega (arith, sized (j .plan) (single-given q book (j .plan) (g .0)) .1)
 
   pub single-fits : (v : VerdictAnswer) (plan : Plan) → verdictOn v plan ≡ judgeSingle q book sample
       → VerdictFits (verdictAnswer v)
@@ -137,7 +138,7 @@ module _ (q : Asked) (book sample : List ℕ) where
       let u : length (numbersOf sample) ≡ j .verdict .used = ap (λ (v : Verdict). v .used) (g .1 .verdict) in
       let plain = curtailed.curtailed-plan-given q book (j .plan) .0 (g .0) .planned .not-reduced in
       let p : singlePlan q book ≡ given (j .plan) = sym (curtailed.curtailed-as-single q book plain) ∙ g .0 in
-      omega (arith, g .1 .stops .within, single-given q book (j .plan) p .few)
+      omega (arith, g .1 .stops .within, sized (j .plan) (single-given q book (j .plan) p) .1)
 
   pub curtailed-fits : (v : VerdictAnswer) (plan : Plan) → verdictOn v plan ≡ judgeCurtailed q book sample
       → VerdictFits (verdictAnswer v)
@@ -195,7 +196,10 @@ module _ (s : Supply) (o : Offered) (book sample : List ℕ) where
   fractional-used j e =
       let g = fractions.judge-fractional-given s o book sample j .0 e in
       let u : j .plan .plan .n ≡ j .verdict .used = ap (λ (v : Verdict). v .used) (g .2 .verdict) in
-      omega (arith, fractional-given (askedOn (s .switching) o) book (j .plan) (g .1) .few)
+      omega (
+        arith,
+        sized (j .plan .plan) (fractional-given (askedOn (s .switching) o) book (j .plan) (g .1)) .1,
+      )
 
   pub fractional-fits : (v : VerdictAnswer) (plan : FractionalPlan)
       → verdictOn v plan ≡ judgeFractional s o book sample → VerdictFits (verdictAnswer v)

@@ -143,22 +143,38 @@ module _ {a : Answer ℕ} {l : ℕ} where
   pub number-given : {x : ℕ} → given x ≡ a → NumberLeft a 0 l x
   number-given e = record { status = told-given e; number-left = rw (← e) }
 
-module _ {A : Type 0} {planOf : A → Plan} {a : Answer A} {l m c : ℕ} where
-  pub plan-refused : {n p s : ℕ} → refused n p ≡ a → s ≡ n + 256 * p → SingleLeft planOf a s l l m m c c
+module _ {A : Type 0} {planOf : A → Plan} {a : Answer A} {l m c t u : ℕ} where
+  pub plan-refused : {n p s : ℕ} → refused n p ≡ a → s ≡ n + 256 * p → SingleLeft planOf a s l l m m c c t t u u
   plan-refused e f =
-      record { status = told-refused e f; letter-left = rw (← e); n-left = rw (← e); ac-left = rw (← e) }
+      record {
+        status = told-refused e f;
+        letter-left = rw (← e);
+        n-left = rw (← e);
+        ac-left = rw (← e);
+        tableN-left = rw (← e);
+        cut-left = rw (← e);
+      }
 
-  pub plan-given : {x : A} → given x ≡ a
-      → SingleLeft planOf a 0 l (planOf x .letter) m (planOf x .n) c (planOf x .ac)
-  plan-given e = record { status = told-given e; letter-left = rw (← e); n-left = rw (← e); ac-left = rw (← e) }
+  pub plan-given : {x : A} {b : ℕ} → given x ≡ a → b ≡ flag (planOf x .cut)
+      → SingleLeft planOf a 0 l (planOf x .letter) m (planOf x .n) c (planOf x .ac) t (planOf x .tableN) u b
+  plan-given e f =
+      record {
+        status = told-given e;
+        letter-left = rw (← e);
+        n-left = rw (← e);
+        ac-left = rw (← e);
+        tableN-left = rw (← e);
+        cut-left = rw (← e) f;
+      }
 
-module _ {a : Answer FractionalPlan} {l m c h : ℕ} where
-  pub fractional-refused : {n p s : ℕ} → refused n p ≡ a → s ≡ n + 256 * p → FractionalPlanLeft a s l l m m c c h h
+module _ {a : Answer FractionalPlan} {l m c h t u : ℕ} where
+  pub fractional-refused : {n p s : ℕ} → refused n p ≡ a → s ≡ n + 256 * p
+      → FractionalPlanLeft a s l l m m c c h h t t u u
   fractional-refused e f = record { single = plan-refused e f; share-left = rw (← e) }
 
-  pub fractional-given : {x : FractionalPlan} → given x ≡ a
-      → FractionalPlanLeft a 0 l (x .plan .letter) m (x .plan .n) c (x .plan .ac) h (x .share)
-  fractional-given e = record { single = plan-given e; share-left = rw (← e) }
+  pub fractional-given : {x : FractionalPlan} {b : ℕ} → given x ≡ a → b ≡ flag (x .plan .cut)
+      → FractionalPlanLeft a 0 l (x .plan .letter) m (x .plan .n) c (x .plan .ac) h (x .share) t (x .plan .tableN) u b
+  fractional-given e f = record { single = plan-given e f; share-left = rw (← e) }
 
 module _ (a : Answer (Lettered StagedPlan)) {l s : ℕ} {row : List ℕ} where
   pub staged-refused : {n p t : ℕ} → refused n p ≡ a → t ≡ n + 256 * p → StagedPlanLeft a t l l s s row row

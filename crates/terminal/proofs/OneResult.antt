@@ -28,20 +28,23 @@ pub number-one : {a : Answer ℕ} {l r l₁ s l₂ : ℕ} → NumberLeft a r l l
 number-one c d = (one (c .status) (d .status), one (c .number-left) (d .number-left))
 
 -- of hm_plan
-pub plan-one : {A : Type 0} {planOf : A → Plan} {a : Answer A} {l n k r l₁ n₁ k₁ s l₂ n₂ k₂ : ℕ}
-    → SingleLeft planOf a r l l₁ n n₁ k k₁ → SingleLeft planOf a s l l₂ n n₂ k k₂
-    → (r ≡ s) × (l₁ ≡ l₂) × (n₁ ≡ n₂) × (k₁ ≡ k₂)
+pub plan-one : {A : Type 0} {planOf : A → Plan} {a : Answer A} {l n k t c r l₁ n₁ k₁ t₁ c₁ s l₂ n₂ k₂ t₂ c₂ : ℕ}
+    → SingleLeft planOf a r l l₁ n n₁ k k₁ t t₁ c c₁ → SingleLeft planOf a s l l₂ n n₂ k k₂ t t₂ c c₂
+    → (r ≡ s) × (l₁ ≡ l₂) × (n₁ ≡ n₂) × (k₁ ≡ k₂) × (t₁ ≡ t₂) × (c₁ ≡ c₂)
 plan-one c d = (
   one (c .status) (d .status),
   one (c .letter-left) (d .letter-left),
   one (c .n-left) (d .n-left),
   one (c .ac-left) (d .ac-left),
+  one (c .tableN-left) (d .tableN-left),
+  one (c .cut-left) (d .cut-left),
 )
 
 -- of hm_fractional_plan
-pub fractional-plan-one : {a : Answer FractionalPlan} {l n k h r l₁ n₁ k₁ h₁ s l₂ n₂ k₂ h₂ : ℕ}
-    → FractionalPlanLeft a r l l₁ n n₁ k k₁ h h₁ → FractionalPlanLeft a s l l₂ n n₂ k k₂ h h₂
-    → ((r ≡ s) × (l₁ ≡ l₂) × (n₁ ≡ n₂) × (k₁ ≡ k₂)) × (h₁ ≡ h₂)
+pub fractional-plan-one : {a : Answer FractionalPlan}
+    {l n k h t c r l₁ n₁ k₁ h₁ t₁ c₁ s l₂ n₂ k₂ h₂ t₂ c₂ : ℕ}
+    → FractionalPlanLeft a r l l₁ n n₁ k k₁ h h₁ t t₁ c c₁ → FractionalPlanLeft a s l l₂ n n₂ k k₂ h h₂ t t₂ c c₂
+    → ((r ≡ s) × (l₁ ≡ l₂) × (n₁ ≡ n₂) × (k₁ ≡ k₂) × (t₁ ≡ t₂) × (c₁ ≡ c₂)) × (h₁ ≡ h₂)
 fractional-plan-one c d = (plan-one (c .single) (d .single), one (c .share-left) (d .share-left))
 
 -- of hm_staged_plan

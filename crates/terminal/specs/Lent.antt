@@ -43,20 +43,22 @@ pub record NumberLeft (answer : Answer ℕ) (r number number′ : ℕ) : Type 0 
   pub number-left : number′ ≡ leftBy (λ n. n) answer number
 
 -- a single plan, of whatever was planned
-pub record SingleLeft {A : Type 0} (planOf : A → Plan) (answer : Answer A) (r letter letter′ n n′ ac ac′ : ℕ) : Type 0
-  where
-    pub status : r ≡ statusOf answer
-    pub letter-left : letter′ ≡ leftBy (λ a. planOf a .letter) answer letter
-    pub n-left : n′ ≡ leftBy (λ a. planOf a .n) answer n
-    pub ac-left : ac′ ≡ leftBy (λ a. planOf a .ac) answer ac
+pub record SingleLeft {A : Type 0} (planOf : A → Plan) (answer : Answer A)
+    (r letter letter′ n n′ ac ac′ tableN tableN′ cut cut′ : ℕ) : Type 0 where
+  pub status : r ≡ statusOf answer
+  pub letter-left : letter′ ≡ leftBy (λ a. planOf a .letter) answer letter
+  pub n-left : n′ ≡ leftBy (λ a. planOf a .n) answer n
+  pub ac-left : ac′ ≡ leftBy (λ a. planOf a .ac) answer ac
+  pub tableN-left : tableN′ ≡ leftBy (λ a. planOf a .tableN) answer tableN
+  pub cut-left : cut′ ≡ leftBy (λ a. flag (planOf a .cut)) answer cut
 
-abbrev pub PlanLeft : Answer Plan → ℕ → ℕ → ℕ → ℕ → ℕ → ℕ → ℕ → Type 0
+abbrev pub PlanLeft : Answer Plan → ℕ → ℕ → ℕ → ℕ → ℕ → ℕ → ℕ → ℕ → ℕ → ℕ → ℕ → Type 0
 PlanLeft = SingleLeft (λ p. p)
 
-pub record FractionalPlanLeft (answer : Answer FractionalPlan) (r letter letter′ n n′ ac ac′ share share′ : ℕ) : Type 0
-  where
-    pub single : SingleLeft (λ p. p .plan) answer r letter letter′ n n′ ac ac′
-    pub share-left : share′ ≡ leftBy (λ p. p .share) answer share
+pub record FractionalPlanLeft (answer : Answer FractionalPlan)
+    (r letter letter′ n n′ ac ac′ share share′ tableN tableN′ cut cut′ : ℕ) : Type 0 where
+  pub single : SingleLeft (λ p. p .plan) answer r letter letter′ n n′ ac ac′ tableN tableN′ cut cut′
+  pub share-left : share′ ≡ leftBy (λ p. p .share) answer share
 
 -- the plan of an answer that has a letter too
 abbrev pub planAlone : {P : Type 0} → Answer (Lettered P) → Answer P

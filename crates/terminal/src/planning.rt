@@ -11,6 +11,7 @@ ghost use Rattle.rules.specs.Terminal.{statusOf, rowLength, rowBytes};
 ghost use Rattle.entry.specs.Paper.{stagedPaper};
 ghost use Rattle.terminal.specs.Lent.{asked, NumberLeft, PlanLeft, FractionalPlanLeft, StagedPlanLeft};
 ghost use Rattle.terminal.specs.Lent.{SequentialPlanLeft, VariablesPlanLeft, bookChecked};
+use super::telling::as_byte;
 use super::telling::status;
 use book::BookAnswer;
 use entry::StagedPlan;
@@ -47,11 +48,15 @@ pub extern "C" fn hm_plan(
     letter: &mut u8,
     n: &mut u16,
     ac: &mut u16,
+    table_n: &mut u16,
+    cut: &mut u8,
 ) -> u32
     ensures { λ r. ⌜ PlanLeft (singlePlan (asked severity size level column) (now (book .entry))) r
         (now (letter .entry)) (now (letter .exit))
         (now (n .entry)) (now (n .exit))
-        (now (ac .entry)) (now (ac .exit)) ⌝ }
+        (now (ac .entry)) (now (ac .exit))
+        (now («table_n» .entry)) (now («table_n» .exit))
+        (now (cut .entry)) (now (cut .exit)) ⌝ }
 {
     let lot = Asked {
         severity,
@@ -67,6 +72,8 @@ pub extern "C" fn hm_plan(
             *letter = planned.plan.letter;
             *n = planned.plan.n;
             *ac = planned.plan.ac;
+            *table_n = planned.plan.table_n;
+            *cut = as_byte(planned.plan.cut);
             0
         }
     }
@@ -84,12 +91,16 @@ pub extern "C" fn hm_fractional_plan(
     n: &mut u16,
     ac: &mut u16,
     share: &mut u8,
+    table_n: &mut u16,
+    cut: &mut u8,
 ) -> u32
     ensures { λ r. ⌜ FractionalPlanLeft (fractionalPlan (asked severity size level column) (now (book .entry))) r
         (now (letter .entry)) (now (letter .exit))
         (now (n .entry)) (now (n .exit))
         (now (ac .entry)) (now (ac .exit))
-        (now (share .entry)) (now (share .exit)) ⌝ }
+        (now (share .entry)) (now (share .exit))
+        (now («table_n» .entry)) (now («table_n» .exit))
+        (now (cut .entry)) (now (cut .exit)) ⌝ }
 {
     let lot = Asked {
         severity,
@@ -106,6 +117,8 @@ pub extern "C" fn hm_fractional_plan(
             *n = planned.plan.plan.n;
             *ac = planned.plan.plan.ac;
             *share = planned.plan.share;
+            *table_n = planned.plan.plan.table_n;
+            *cut = as_byte(planned.plan.plan.cut);
             0
         }
     }

@@ -74,7 +74,7 @@ returns-2 c =
     (reducedPaper (c .before .reduced-at .result))
     (c .before .reduced-at .ensures
     ∙ ap (λ (ws : List ℕ). reducedOf (entryOf reducedSingles ws)) (numbers-part (now (a .book)) _))
-    _ (c .cut-to .ensures))
+    _ (c .cut-plan .ensures))
 
 pub reduced-plan-spec : {M : Type 1} → statement M
 reduced-plan-spec =

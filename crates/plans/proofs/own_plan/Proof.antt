@@ -4,7 +4,7 @@ use Rattle.plans.proofs.own_plan.Statement.{statement}
 use Rattle.plans.proofs.own_plan.Tie as tie
 
 returns : tie.Need-returns
-returns c = rw (← c .before .size-of .ensures, ← c .cut-to .ensures)
+returns c = rw (← c .before .size-of .ensures) (c .cut-plan .ensures)
 
 pub own-plan-spec : {M : Type 1} → statement M
 own-plan-spec = tie.close (tie.spec (λ c κs. search needs) (λ c κs. search needs) returns)

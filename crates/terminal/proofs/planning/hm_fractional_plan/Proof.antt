@@ -24,9 +24,12 @@ returns c =
 returns-2 : tie.Need-returns-2
 returns-2 c =
     fractional-given
-    (planned-given zeroFractional (c .before .before .fractional-plan .ensures) (c .enum-told .given .1))
+    (planned-given zeroFractional (c .before .before .before .fractional-plan .ensures)
+    (c .before .enum-told .given .1))
+    (c .as-byte .ensures)
 
 pub hm-fractional-plan-spec : {M : Type 1} → statement M
 hm-fractional-plan-spec =
     tie.close
-    (tie.spec (λ c κs. search needs) (λ c. search needs) status-requires (λ c. search needs) returns returns-2)
+    (tie.spec (λ c κs. search needs) (λ c. search needs) status-requires (λ c. search needs)
+    (λ c κs. search needs) returns returns-2)

@@ -24,9 +24,11 @@ returns c =
 returns-2 : tie.Need-returns-2
 returns-2 c =
     plan-given
-    (planned-given zeroPlan (c .before .before .single-plan .ensures) (c .enum-told .given .1))
+    (planned-given zeroPlan (c .before .before .before .single-plan .ensures) (c .before .enum-told .given .1))
+    (c .as-byte .ensures)
 
 pub hm-plan-spec : {M : Type 1} → statement M
 hm-plan-spec =
     tie.close
-    (tie.spec (λ c κs. search needs) (λ c. search needs) status-requires (λ c. search needs) returns returns-2)
+    (tie.spec (λ c κs. search needs) (λ c. search needs) status-requires (λ c. search needs)
+    (λ c κs. search needs) returns returns-2)
