@@ -137,7 +137,7 @@ static void print_letter(void) {
 /* Where the size was cut to the lot, the table's own (under reduced the book's) stands beside it. */
 static void print_size(uint16_t n, uint16_t table_n, uint8_t cut) {
     if (cut)
-        printf("n %u (the whole lot; the table has %u)", n, table_n);
+        printf("n %u (the whole lot, of %u)", n, table_n);
     else
         printf("n %u", n);
 }

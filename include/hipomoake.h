@@ -234,21 +234,23 @@ uint32_t hm_letter(uint32_t size, uint32_t level, uint8_t *letter);
 /*
  * The single sampling plan for a lot. Under reduced it comes from the book.
  *   letter   the letter that gives the size, HM_LETTER_A to HM_LETTER_S; under reduced that of Table 1
- *   n        items to inspect: table_n, or the whole lot where that is not more
+ *   n        items to inspect: table_n, or the whole lot where the lot has no more items than table_n
  *   ac       accept when the sample's total is at most this
  *   table_n  the table's own size, under reduced the book's, as it stands there
- *   cut      1 where table_n equals or exceeds the lot, so that n is the whole lot; else 0
+ *   cut      1 where the lot has no more items than table_n, also where it has as many: n is the whole lot; else 0
  * Refuses 1 2 3 4 5 6 12.
+ *   table_n and cut came later, here and in hm_fractional_plan: every caller passes both, and is compiled anew. An
+ * object made with an older header still links, and must not be used: it passes no place for them.
  */
 uint32_t hm_plan(uint32_t size, uint32_t level, uint32_t column, uint32_t severity, const uint8_t *book,
                  size_t book_len, uint8_t *letter, uint16_t *n, uint16_t *ac, uint16_t *table_n, uint8_t *cut);
 
 /*
  * The single sampling plan for a lot in the mode of fractions.
- *   letter, n, ac  as of hm_plan where share is HM_WHOLE_AC
- *   share          HM_WHOLE_AC, which is 0; else HM_ONE_HALF, 2, or HM_ONE_THIRD, 3: then letter is that of Table 1, n
- *                  its size, or the whole lot where that is not more, and ac 0
- *   table_n, cut   of n, as hm_plan tells them
+ *   letter, n, ac, table_n, cut
+ *          as of hm_plan where share is HM_WHOLE_AC
+ *   share  HM_WHOLE_AC, which is 0; else HM_ONE_HALF, 2, or HM_ONE_THIRD, 3: then letter is that of Table 1, table_n
+ *          its size, n and cut by that size as of hm_plan, and ac 0
  * Refuses 1 2 3 4 5 6 12; 6 also for a fraction at a column over 15.
  */
 uint32_t hm_fractional_plan(uint32_t size, uint32_t level, uint32_t column, uint32_t severity, const uint8_t *book,

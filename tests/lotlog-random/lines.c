@@ -45,7 +45,7 @@ static struct plan draw_plan(uint32_t size, uint32_t level, uint32_t column) {
     return plan;
 }
 
-/* A lot of as many items as its table size, or of one fewer or more; at times only its low 16 bits are so. */
+/* As many items as a table size, or one fewer or more; at times only in the low 16 bits. */
 static uint32_t size_beside(uint32_t table_n) {
     return table_n - 1 + below(3) + (one_in(10) ? between(1, 65535) << 16 : 0);
 }

@@ -59,7 +59,7 @@ static unsigned draw_total(const struct call *c, unsigned usual, unsigned most) 
 
 /* ---- bodies */
 
-/* A size above the lot is cut to it; any is drawn where no sample is to be. */
+/* A size above the lot is cut to it; where no sample is to be drawn it is any, or one below the lot. */
 static void draw_reduced(struct call *c, struct plans *p) {
     p->reduced_n = most_of(draw_total(c, 30, 3150), 1);
     if (tells_size(c->function) && one_in(4))

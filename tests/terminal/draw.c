@@ -58,7 +58,7 @@ static void aim_at_fraction(struct call *c) {
         c->column = s - letter;
 }
 
-/* A lot of as many items as its plan's own size, or of one fewer or more; at times only its low 16 bits are so. */
+/* As many items as the own size of the plan it had, or one fewer or more; at times only in the low 16 bits. */
 static void aim_at_size(struct call *c) {
     static const uint8_t no_book[8] = {0};
     uint8_t letter, cut;

@@ -46,7 +46,7 @@ static void every_table_size(void) {
     for (unsigned i = 0; i < sizeof sizes / sizeof *sizes; i++)
         for (unsigned j = 0; j < BEYOND; j++)
             for (unsigned beside = 0; beside < 3; beside++)
-                if (beyond[j] + sizes[i] + beside > 2)
+                if (beyond[j] + sizes[i] + beside - 1 >= 2)
                     every_plan(beyond[j] + sizes[i] + beside - 1);
 }
 

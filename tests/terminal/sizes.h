@@ -1,6 +1,6 @@
 /*
  * The size that a plan is told with, beside its lot and the table's or the book's own, by a second rule: T-05's own
- * sentences, with no plan looked up.
+ * sentences, with no arrow followed.
  */
 #ifndef SIZES_H
 #define SIZES_H

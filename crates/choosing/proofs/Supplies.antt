@@ -9,7 +9,7 @@ use lib.ListN.{length, drop}
 use Rattle.rules.specs.Refusals.{Answer, refused, given, firstOf, andThen}
 use Rattle.rules.specs.Codes.{letterOf}
 use Rattle.rules.specs.Numbers.{numbersOf}
-use Rattle.rules.specs.Single.{Plan, planFrom}
+use Rattle.rules.specs.Single.{Plan, cutPlan}
 use Rattle.rules.specs.Book.{Checked, sound, brokenAt, checkBook, onSound, kinds, kindAt, reducedSingles}
 use Rattle.rules.specs.Book.{ReducedSingle, reducedOf}
 use Rattle.rules.specs.Layout.{entryOf}
@@ -163,7 +163,7 @@ reduced-supplied q book known s = rw (eq-eqb (q .severity) 2 s)
 pub reduced-given : (q : Asked) (book : List ℕ) (known : 0 < length kinds) → q .severity ≡ 2 → (l p : ℕ)
     → given (record { letter = l; plan = p }) ≡ placeFor 0 q book → (held : ReducedSingle)
     → held ≡ reducedOf (entryOf reducedSingles (drop p (numbersOf book))) → (plan : Plan)
-    → plan ≡ planFrom (q .size) l (held .n) (held .ac) → given plan ≡ singlePlan q book
+    → plan ≡ cutPlan (q .size) l (held .n) (held .ac) → given plan ≡ singlePlan q book
 reduced-given q book known s l p e held h plan cut =
     let x = supplied-at 0 q book known (λ w. given (reducedPlan q w)) l p e in
     let told : _≡_ {A = Answer Plan} (given plan)

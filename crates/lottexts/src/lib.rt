@@ -147,7 +147,7 @@ fn put_names(out: &mut [u8; LINE], at: usize, severity: u8, letter: u8) -> usize
     put_byte(out, lettered, b' ')
 }
 
-// "a W straight after n on a cut line"
+// n, and "a W straight after n on a cut line".
 fn put_size(out: &mut [u8; LINE], at: usize, plan: SinglePlan) -> usize
     requires { ⌜ at + 6 ≤ lineRoom ⌝ }
     ensures { λ r. ⌜ Puts at (sizeText (planPaper plan)) (now (out .entry)) (now (out .exit)) r × (r ≤ at + 6) ⌝ }

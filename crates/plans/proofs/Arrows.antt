@@ -9,7 +9,7 @@ use lib.Dec.{eqb}
 use lib.ListN.{getD}
 use borrow.Author.Tests.{eq-eqb, ne-eqb}
 use Rattle.rules.specs.Single.{down, up, number, boxAt, Landing, landed, landing, landingOf, acOf}
-use Rattle.rules.specs.Single.{Plan, sizes, planFrom, planAt}
+use Rattle.rules.specs.Single.{Plan, sizes, cutPlan, planAt}
 use Rattle.rules.proofs.Bounded.{by-le, never}
 use Rattle.rules.proofs.Tables.{up-positive, landing-box}
 use Rattle.rules.proofs.Landing.{landing-number, landing-down, landing-up}
@@ -80,7 +80,7 @@ module _ (severity column letter cell : ℕ) (e : boxIn cell ≡ boxAt severity 
 -- the plan at the letter where the arrows end: its Ac is read from the box there
 pub plan-there : (severity size column letter at n cell : ℕ) (p : Plan) → severity < 2 → column < 26 → letter < 16
     → at ≡ landingOf severity column letter .letter → boxIn cell ≡ boxAt severity column at → n ≡ getD sizes at 0
-    → p ≡ planFrom size at n cell → p ≡ planAt size (landingOf severity column letter)
+    → p ≡ cutPlan size at n cell → p ≡ planAt size (landingOf severity column letter)
 plan-there severity size column letter at n cell p v c l e box size-there h =
     let ac = cell-held cell _ (box ∙ ap (boxAt severity column) e ∙ landing-box severity column letter v c l) in
     h ∙ rw (size-there, e, ac)

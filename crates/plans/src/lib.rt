@@ -4,7 +4,7 @@ ghost use mathlib.Core.Path.{_≡_};
 ghost use Prim.Native.Nat.{_+_, _-_, _≤_, _<_};
 ghost use lib.ListN.{getD};
 ghost use Rattle.rules.specs.Codes.{tableOne, above, rowOf, letterOf, tableOneLetter};
-ghost use Rattle.rules.specs.Single.{sizes, rowAt, boxAt, landing, landingOf, planFrom, planAt, tighterAc};
+ghost use Rattle.rules.specs.Single.{sizes, rowAt, boxAt, landing, landingOf, cutPlan, planAt, tighterAc};
 ghost use Rattle.rules.specs.Fractional.{shareAt, ownPlan};
 ghost use Rattle.rules.specs.Entries.{askedLetter, plainPlan, inFractions};
 ghost use Rattle.rules.specs.Refusals.{refused, andThen};
@@ -328,7 +328,7 @@ fn land(severity: u32, column: u32, letter: u8, left: u8) -> u8
 
 // The plan of a lot by a letter, the size there and Ac: a size at or above the lot is cut to it.
 pub fn cut_plan(lot: u32, letter: u8, table_n: u16, ac: u16) -> SinglePlan
-    ensures { λ r. ⌜ planPaper r ≡ planFrom lot letter «table_n» ac ⌝ }
+    ensures { λ r. ⌜ planPaper r ≡ cutPlan lot letter «table_n» ac ⌝ }
 {
     if lot <= table_n as u32 {
         return SinglePlan {
@@ -359,6 +359,7 @@ fn size_of(letter: u8) -> u16
     0
 }
 
+// The plan where the arrows from a letter end.
 fn plan_from(severity: u32, size: u32, column: u32, letter: u8) -> SinglePlan
     requires { ⌜ (severity < 2) × (column < 26) × (letter < 16) ⌝ }
     ensures { λ r. ⌜ planPaper r ≡ planAt size (landingOf severity column letter) ⌝ }

@@ -14,7 +14,7 @@ use Rattle.rules.specs.Book.{Kind, Range, within, anything, right, numbe
 use Rattle.rules.specs.Book.{reducedSingles, sequential, sequentialRule, variables, atFits}
 use Rattle.rules.specs.Book.{sequentialOf, variablesOf}
 use Rattle.rules.specs.Codes.{letterOf}
-use Rattle.rules.specs.Single.{Plan, planFrom}
+use Rattle.rules.specs.Single.{Plan, cutPlan}
 use Rattle.rules.specs.Sequential.{SequentialPlan, onAcceptLine, onRejectLine, itemDecides}
 use Rattle.rules.specs.Verdict.{accepts, rejects}
 use Rattle.rules.specs.Numbers.{numbersOf}
@@ -65,7 +65,7 @@ variables-could p r =
     )
 
 -- the sizes of a plan from a lot of two items or more fit each other, ..
-pub cut-fits : (lot letter n ac : ℕ) → 2 ≤ lot → SizesFit (planFrom lot letter n ac)
+pub cut-fits : (lot letter n ac : ℕ) → 2 ≤ lot → SizesFit (cutPlan lot letter n ac)
 cut-fits lot letter n ac two = go (leb lot n) refl
   where
     go : (t : Bool) → leb lot n ≡ t

@@ -1,5 +1,5 @@
--- Document 02, T-05, worked: plans whose size is below, at and above the lot, of the tables and of a book, and the
--- lines that lotlog prints of such lots.
+-- Document 02, T-05, worked: plans whose size is below, at and above the lot, of the tables and of a book, the plans that
+-- closed lots have, and the lines that lotlog prints of such lots.
 -- Assumes nothing.
 use Prim.Native.Nat.{ℕ}
 use mathlib.Core.Path.{_≡_, refl}
@@ -65,13 +65,13 @@ sizeCases =
     ∷ (planned normal 4294967295 5 is (14 ∷ 1250 ∷ 3 ∷ 1250 ∷ 0 ∷ []))
     ∷ []
 
-pub sizes : AllAsSaid sizeCases
+pub whole-lots-worked : AllAsSaid sizeCases
 unfolding sizeCases planned figures book singlePlan tablePlan landing boxAt letterOf rowOf rowFrom checkBook numberBytes
     numbersOf checkedAs sections section entries entry shift thenFrom keyFalls rises numbersFrom right lookUp
     sameKey seek seekIn every
-sizes = refl
+whole-lots-worked = refl
 
--- n, the table's own size, and 1 where that is cut, of the plan that a judged or closed lot has
+-- n, the table's own size, and 1 where that is cut, of the plan that a closed lot has
 sizesOf : Plan → List ℕ
 sizesOf p = p .n ∷ p .tableN ∷ cond (p .cut) 1 0 ∷ []
 
@@ -88,10 +88,10 @@ new = freshSupply false
 clean : ℕ → List ℕ
 clean n = numberBytes (replicate n 0)
 
--- 10, II, 0.10, judged or closed in full, curtailed, by its total, and in the mode of fractions, where it is none; and
--- two items, III, 10, which are on one half
-pub passedCases : List (Case (List ℕ))
-passedCases =
+-- 10, II, 0.10, in full, curtailed, by its total, and in the mode of fractions, where it is on none; and two items, III,
+-- 10, which are on one half
+pub closedCases : List (Case (List ℕ))
+closedCases =
     (told (λ c. c .judged .plan) (closeSingle new ten book (clean 10)) is (10 ∷ 125 ∷ 1 ∷ []))
     ∷ (told (λ c. c .judged .plan) (closeCurtailed new ten book (clean 10)) is (10 ∷ 125 ∷ 1 ∷ []))
     ∷ (told (λ c. c .judged .plan) (closeTotal new ten 0) is (10 ∷ 125 ∷ 1 ∷ []))
@@ -101,14 +101,14 @@ passedCases =
     is (2 ∷ 3 ∷ 1 ∷ []))
     ∷ []
 
-pub passed : AllAsSaid passedCases
-unfolding passedCases told sizesOf ten new clean book closeSingle closeCurtailed closeTotal closeFractional
+pub whole-lots-closed : AllAsSaid closedCases
+unfolding closedCases told sizesOf ten new clean book closeSingle closeCurtailed closeTotal closeFractional
     judgeSingle judgeCurtailed judgeTotal judgeFractional judgeItems judgeUntilLost curtailedFrom judgeByShare
     singlePlan curtailedPlan plainPlan fractionalPlan shareIn shareAt hasFractionalPlan tablePlan landing boxAt
     tighterAc letterOf rowOf rowFrom checkBook numberBytes numbersOf checkedAs sections section entries entry shift
     thenFrom keyFalls rises numbersFrom right anyIllegal sumOf move cleanInRange step onLot figuresInRange
     lib.Count.ones
-passed = refl
+whole-lots-closed = refl
 
 pub input : List ℕ
 input = ascii "L 10 5 5 0\nL 125 5 5 1\nL 126 5 5 0\nR 124 5 5 1\nL 10 5 5 11\n"
@@ -118,8 +118,8 @@ output =
     ascii "no sev let n ac verdict next score\n1 N K 10W 0 accept N 2\n2 N K 125W 0 reject N 0\n"
     ++ ascii "3 N K 125 0 accept N 2\n4 N K 124W 0 reject N 2\n5 refused 8\n"
 
-pub lines : log ours input ≡ output
+pub whole-lots-logged : log ours input ≡ output
 unfolding input output log logFrom loggedAs lineOf splitAt droppingEmptyLast allDigits valueFrom isNumber digitsFrom
     printed next move cleanInRange closeTotal judgeTotal plainPlan tablePlan landing boxAt tighterAc letterOf rowOf
     rowFrom step onLot onResubmitted onOrder onCorrective figuresInRange eventIn eventOf lib.Count.ones
-lines = refl
+whole-lots-logged = refl

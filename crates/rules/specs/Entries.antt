@@ -8,7 +8,7 @@ use Rattle.rules.specs.Refusals.{Answer, refused, given, Check, _gives_,
 use Rattle.rules.specs.Refusals.{noSuchColumn, whileStopped, noPlan, illegalItem}
 use Rattle.rules.specs.Codes.{reduced, stopped, countsItems, lotChecks, letterOf}
 use Rattle.rules.specs.Verdict.{Verdict, Judged}
-use Rattle.rules.specs.Single.{Plan, planFrom, tablePlan, tighterAc, singleVerdict, judgeItems}
+use Rattle.rules.specs.Single.{Plan, cutPlan, tablePlan, tighterAc, singleVerdict, judgeItems}
 use Rattle.rules.specs.Curtailed.{judgeUntilLost}
 use Rattle.rules.specs.Staged.{StagedPlan, stagesOf, totalSize, judgeStages}
 use Rattle.rules.specs.Sequential.{SequentialPlan, judgeSequence}
@@ -89,7 +89,7 @@ unlessAbove lotSize needed plan = firstOf ((ltb lotSize needed gives noPlan) ∷
 
 -- "Reduced singles come from the plan book, by the Table 1 letter; a size at or above the lot is cut alike."
 abbrev pub reducedPlan : Asked → List ℕ → Plan
-reducedPlan q e = planFrom (q .size) (letterOf (q .size) (q .level)) (reducedOf e .n) (reducedOf e .ac)
+reducedPlan q e = cutPlan (q .size) (letterOf (q .size) (q .level)) (reducedOf e .n) (reducedOf e .ac)
 
 -- single_plan
 unfoldable pub singlePlan : Asked → List ℕ → Answer Plan

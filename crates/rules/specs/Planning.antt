@@ -10,7 +10,7 @@ use lib.ListN.{length, getD, take}
 use Rattle.rules.specs.Refusals.{Answer, refused, given}
 use Rattle.rules.specs.Verdict.{Verdict, Judged}
 use Rattle.rules.specs.Codes.{letterOf}
-use Rattle.rules.specs.Single.{sizes, Plan, planFrom, tablePlan}
+use Rattle.rules.specs.Single.{sizes, Plan, cutPlan, tablePlan}
 use Rattle.rules.specs.Staged.{stagesOf, totalSize}
 use Rattle.rules.specs.Severity.{Event, lot, resubmitted, steadyIs, permissionIs, corrective, unknown}
 use Rattle.rules.specs.Severity.{Record, step}
@@ -52,7 +52,7 @@ SinglePlanRows q book = LotRows q (Row 6 (NoReduced q book) NoRow)
 -- "Reduced singles come from the plan book, by the Table 1 letter; a size at or above the lot is cut alike": the plan
 -- of an entry under that letter.
 abbrev pub cutFrom : Asked → List ℕ → Plan
-cutFrom q e = planFrom (q .size) (letterOf (q .size) (q .level)) (getD e 2 0) (getD e 3 0)
+cutFrom q e = cutPlan (q .size) (letterOf (q .size) (q .level)) (getD e 2 0) (getD e 3 0)
 
 -- Under reduced inspection the book's entry, else the tables.
 pub record SinglePlanned (q : Asked) (book : List ℕ) (plan : Plan) : Type 0 where
@@ -198,7 +198,7 @@ ownShare q = shareAt (q .severity) (q .column) (letterOf (q .size) (q .level))
 abbrev pub ownFraction : Asked → ℕ → FractionalPlan
 ownFraction q share =
     let letter = letterOf (q .size) (q .level) in
-    record { plan = planFrom (q .size) letter (getD sizes letter 0) 0; share = share }
+    record { plan = cutPlan (q .size) letter (getD sizes letter 0) 0; share = share }
 
 -- The plan in that mode: refused as the single plan, and "6 when the column is over 15 and the box is fractional".
 abbrev pub FractionalPlanRows : Asked → List ℕ → ℕ → Type 0

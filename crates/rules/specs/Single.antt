@@ -152,12 +152,12 @@ abbrev pub cutTo : ℕ → ℕ → ℕ
 cutTo lot tableN = cond (isCut lot tableN) lot tableN
 
 -- the plan of a lot: a letter, the size there and Ac, of a table or of a book
-abbrev pub planFrom : ℕ → ℕ → ℕ → ℕ → Plan
-planFrom lot letter tableN ac =
+abbrev pub cutPlan : ℕ → ℕ → ℕ → ℕ → Plan
+cutPlan lot letter tableN ac =
     record { letter = letter; n = cutTo lot tableN; ac = ac; tableN = tableN; cut = isCut lot tableN }
 
 abbrev pub planAt : ℕ → Landing → Plan
-planAt lot l = planFrom lot (l .letter) (getD sizes (l .letter) 0) (l .ac)
+planAt lot l = cutPlan lot (l .letter) (getD sizes (l .letter) 0) (l .ac)
 
 -- the plan of a lot that the tables hold: normal or tightened
 unfoldable pub tablePlan : ℕ → ℕ → ℕ → ℕ → Plan

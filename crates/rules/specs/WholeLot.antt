@@ -40,6 +40,7 @@ pub record SizeTold (lot own : ℕ) (p : Plan) : Type 0 where
   pub own-size : p .tableN ≡ own
   pub cut-exactly : (p .cut ≡ true) ↔ (lot ≤ own)
   pub smaller : p .n ≡ min lot own
+  pub whole-lot : (p .cut ≡ true) ↔ (p .n ≡ lot)
 
 -- does a byte stand in a text?
 unfoldable pub hasByte : ℕ → List ℕ → Bool

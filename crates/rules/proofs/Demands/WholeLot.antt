@@ -15,12 +15,13 @@ use Rattle.rules.specs.Refusals.{Answer, refused, given, unknownForm}
 use Rattle.rules.specs.Codes.{reduced, letterOf, letterNames}
 use Rattle.rules.specs.Numbers.{numbersOf, halfLeft}
 use Rattle.rules.specs.Verdict.{Verdict, Judged}
-use Rattle.rules.specs.Single.{Plan, sizes, planFrom, tablePlan, judgeItems}
+use Rattle.rules.specs.Single.{Plan, sizes, cutPlan, tablePlan, judgeItems}
 use Rattle.rules.specs.Curtailed.{judgeUntilLost, curtailedFrom}
 use Rattle.rules.specs.Fractional.{FractionalPlan}
+use Rattle.rules.specs.Severity.{Record}
 use Rattle.rules.specs.Supply.{Supply}
 use Rattle.rules.specs.History.{Work}
-use Rattle.rules.specs.Entries.{Asked, Offered, Closed, askedOn, lookedUp, reducedSection, next}
+use Rattle.rules.specs.Entries.{Asked, Offered, Closed, askedOn, lookedUp, reducedSection, next, singleEvent}
 use Rattle.rules.specs.Entries.{singlePlan, plainPlan, curtailedPlan, inFractions, fractionalPlan}
 use Rattle.rules.specs.Entries.{singleSample, curtailedSample, judgeSingle, judgeCurtailed, judgeFractional}
 use Rattle.rules.specs.Entries.{judgeTotal, closeSingle, closeCurtailed, closeFractional, closeTotal}
@@ -38,13 +39,21 @@ use Rattle.rules.proofs.Demands.Curtailed as curtailed
 use Rattle.rules.proofs.Demands.Fractional as fractions
 
 -- 1. The plan of a letter, a size and Ac, whichever table or book it is from.
-size-told : (lot letter own ac : ℕ) → SizeTold lot own (planFrom lot letter own ac)
+size-told : (lot letter own ac : ℕ) → SizeTold lot own (cutPlan lot letter own ac)
 size-told lot letter own ac =
-    record { own-size = refl; cut-exactly = (leb-true lot own, le-leb lot own); smaller = drawn (leb lot own) refl }
+    record {
+      own-size = refl;
+      cut-exactly = (leb-true lot own, le-leb lot own);
+      smaller = drawn (leb lot own) refl;
+      whole-lot = (all (leb lot own), λ n. le-leb lot own (omega (arith, n, drawn (leb lot own) refl)));
+    }
   where
     drawn : (t : Bool) → leb lot own ≡ t → cond t lot own ≡ min lot own
     drawn true t = let h = leb-true lot own t in omega arith
     drawn false t = let h = leb-false lot own t in omega arith
+
+    all : (t : Bool) → t ≡ true → cond t lot own ≡ lot
+    all t e = rw e
 
 module _ (q : Asked) where
   tables-told : SizeTold (q .size) (tableSize q) (tablePlan (q .severity) (q .size) (q .level) (q .column))
@@ -156,6 +165,11 @@ module _ (column : ℕ) (p q : Plan) (same-n : p .n ≡ q .n) (same-ac : p .ac �
   pub curtailed-n-alone : curtailedSample column p sample ≡ curtailedSample column q sample
   unfolding curtailedSample judgeUntilLost
   curtailed-n-alone = rw (walk-alike (halfLeft sample) (p .n) 0 0 (numbersOf sample), same-n)
+
+-- The event that it stands for, and so its points, are by letter and Ac alone.
+pub event-alone : (r : Record) (o : Offered) (p q : Plan) (v : Verdict) → p .letter ≡ q .letter → p .ac ≡ q .ac
+    → singleEvent r o (record { plan = p; verdict = v }) ≡ singleEvent r o (record { plan = q; verdict = v })
+event-alone r o p q v same-letter same-ac = rw (same-letter, same-ac)
 
 -- 4. lotlog: "prints a W straight after n on a cut line". Of the texts that lines are made of, no other has a W.
 w-digits : (n : ℕ) → hasByte letterW (decimal n) ≡ false
