@@ -1,12 +1,12 @@
 -- Plans that a sound book could hold: what the rules of their section give.
 -- Assumes nothing.
-use Prim.Native.Nat.{ℕ, _+_, _*_, _-_, _/_, _≤_, _<_}
+use Prim.Native.Nat.{ℕ, min, _+_, _*_, _-_, _/_, _≤_, _<_}
 use mathlib.Core.Path.{_≡_, refl, ap, sym, _∙_}
 use mathlib.Core.Logic.{inl, inr}
 use mathlib.Core.Bool.{Bool, true, false, cond}
 use mathlib.Core.List.{List, [], _∷_}
 use native.Mathlib.Omega.{arith}
-use borrow.Author.Tests.{ltb-true, leb-true, le-leb, lt-leb, le-ltb, lt-ltb}
+use borrow.Author.Tests.{ltb-true, leb-true, leb-false, le-leb, lt-leb, le-ltb, lt-ltb}
 use lib.ListN.{getD, length, take}
 use lib.Seq.{getD-take}
 use lib.Dec.{leb}
@@ -14,7 +14,7 @@ use Rattle.rules.specs.Book.{Kind, Range, within, anything, right, numbe
 use Rattle.rules.specs.Book.{reducedSingles, sequential, sequentialRule, variables, atFits}
 use Rattle.rules.specs.Book.{sequentialOf, variablesOf}
 use Rattle.rules.specs.Codes.{letterOf}
-use Rattle.rules.specs.Single.{Plan, cutPlan}
+use Rattle.rules.specs.Single.{Plan, isCut, cutPlan}
 use Rattle.rules.specs.Sequential.{SequentialPlan, onAcceptLine, onRejectLine, itemDecides}
 use Rattle.rules.specs.Verdict.{accepts, rejects}
 use Rattle.rules.specs.Numbers.{numbersOf}
@@ -22,6 +22,7 @@ use Rattle.rules.specs.Book.{checkBook, sound, kinds, kindAt, lookUp, Fo
 use Rattle.rules.specs.Variables.{VariablesPlan}
 use Rattle.rules.specs.Entries.{Asked, variablesEntry, reducedPlan}
 use Rattle.rules.specs.PlanRules.{Held, SizesFit}
+use Rattle.rules.specs.WholeLot.{SizeTold}
 pub use Rattle.rules.specs.PlanRules.{SingleRight, VariablesRight, SequentialRight}
 use Rattle.rules.proofs.Bools.{and-left, and-right}
 use Rattle.rules.proofs.Bounded.{by-le}
@@ -64,14 +65,33 @@ variables-could p r =
       le-leb (p .k) 4000 (r .high),
     )
 
--- the sizes of a plan from a lot of two items or more fit each other, ..
-pub cut-fits : (lot letter n ac : ℕ) → 2 ≤ lot → SizesFit (cutPlan lot letter n ac)
-cut-fits lot letter n ac two = go (leb lot n) refl
+-- Document 02, T-05: what the plan of a letter, a size and Ac tells of its lot, whichever table or book it is from ..
+pub size-told : (lot letter own ac : ℕ) → SizeTold lot own (cutPlan lot letter own ac)
+size-told lot letter own ac =
+    record {
+      own-size = refl;
+      cut-exactly = (leb-true lot own, le-leb lot own);
+      smaller = drawn (leb lot own) refl;
+      whole-lot = (all (leb lot own), λ n. le-leb lot own (omega (arith, n, drawn (leb lot own) refl)));
+    }
   where
-    go : (t : Bool) → leb lot n ≡ t
-        → SizesFit (record { letter = letter; n = cond t lot n; ac = ac; tableN = n; cut = t })
-    go true t = inr (refl, two, leb-true lot n t)
-    go false t = inl (refl, refl)
+    drawn : (t : Bool) → leb lot own ≡ t → cond t lot own ≡ min lot own
+    drawn true t = let h = leb-true lot own t in omega arith
+    drawn false t = let h = leb-false lot own t in omega arith
+
+    all : (t : Bool) → t ≡ true → cond t lot own ≡ lot
+    all t e = rw e
+
+-- .. and so the sizes of a plan from a lot of two items or more fit each other, ..
+pub cut-fits : (lot letter own ac : ℕ) → 2 ≤ lot → SizesFit (cutPlan lot letter own ac)
+cut-fits lot letter own ac two = on (isCut lot own) refl
+  where
+    told : SizeTold lot own (cutPlan lot letter own ac)
+    told = size-told lot letter own ac
+
+    on : (t : Bool) → isCut lot own ≡ t → SizesFit (cutPlan lot letter own ac)
+    on true t = inr (t, omega (arith, two, told .whole-lot .0 t), omega (arith, told .smaller, told .own-size))
+    on false t = inl (t, omega (arith, leb-false lot own t, told .smaller, told .own-size))
 
 -- .. and n is in the range of the table's own
 pub sized : (p : Plan) → SingleRight p → (1 ≤ p .n) × (p .n ≤ 3150)

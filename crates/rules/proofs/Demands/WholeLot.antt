@@ -1,21 +1,21 @@
 -- Document 02, T-05: every plan that is given tells the table's own size, and whether the size was cut to the lot;
 -- everything that takes a plan passes both on; lotlog prints a W exactly on the lines of lots that are inspected whole.
 -- Assumes nothing.
-use Prim.Native.Nat.{ℕ, zero, suc, min, _+_}
+use Prim.Native.Nat.{ℕ, zero, suc, _+_}
 use mathlib.Core.Path.{_≡_, refl, sym, ap, subst, _∙_}
 use mathlib.Core.Logic.{_↔_}
 use mathlib.Core.Bool.{Bool, true, false, cond, false≢true}
 use mathlib.Core.List.{List, [], _∷_, _++_, append-nil, append-assoc}
 use native.Mathlib.Omega.{arith}
-use borrow.Author.Tests.{leb-true, leb-false, le-leb, eqb-true, eqb-false, eq-eqb, ne-eqb}
-use lib.Dec.{leb, eqb}
+use borrow.Author.Tests.{eqb-true, eqb-false, eq-eqb, ne-eqb}
+use lib.Dec.{eqb}
 use lib.ListN.{getD}
 use Rattle.rules.specs.Ascii.{ascii}
 use Rattle.rules.specs.Refusals.{Answer, refused, given, unknownForm}
 use Rattle.rules.specs.Codes.{reduced, letterOf, letterNames}
 use Rattle.rules.specs.Numbers.{numbersOf, halfLeft}
 use Rattle.rules.specs.Verdict.{Verdict, Judged}
-use Rattle.rules.specs.Single.{Plan, sizes, cutPlan, tablePlan, judgeItems}
+use Rattle.rules.specs.Single.{Plan, sizes, tablePlan, judgeItems}
 use Rattle.rules.specs.Curtailed.{judgeUntilLost, curtailedFrom}
 use Rattle.rules.specs.Fractional.{FractionalPlan}
 use Rattle.rules.specs.Severity.{Record}
@@ -33,28 +33,13 @@ use Rattle.rules.specs.WholeLot.{tableSize, entrySize, singleSize, sizeI
 use Rattle.rules.specs.WholeLot.{CutLine}
 use Rattle.rules.proofs.Answers.{then-given}
 use Rattle.rules.proofs.Fractions.{InMode, whole, fraction, in-mode}
+use Rattle.rules.proofs.HeldPlans.{size-told}
 use Rattle.rules.proofs.TextBytes.{past, split-past, no-digit, name-without}
 use Rattle.rules.proofs.Demands.Two as two
 use Rattle.rules.proofs.Demands.Curtailed as curtailed
 use Rattle.rules.proofs.Demands.Fractional as fractions
 
--- 1. The plan of a letter, a size and Ac, whichever table or book it is from.
-size-told : (lot letter own ac : ℕ) → SizeTold lot own (cutPlan lot letter own ac)
-size-told lot letter own ac =
-    record {
-      own-size = refl;
-      cut-exactly = (leb-true lot own, le-leb lot own);
-      smaller = drawn (leb lot own) refl;
-      whole-lot = (all (leb lot own), λ n. le-leb lot own (omega (arith, n, drawn (leb lot own) refl)));
-    }
-  where
-    drawn : (t : Bool) → leb lot own ≡ t → cond t lot own ≡ min lot own
-    drawn true t = let h = leb-true lot own t in omega arith
-    drawn false t = let h = leb-false lot own t in omega arith
-
-    all : (t : Bool) → t ≡ true → cond t lot own ≡ lot
-    all t e = rw e
-
+-- 1. Every plan that is given: of the tables, of the book, and in the mode of fractions.
 module _ (q : Asked) where
   tables-told : SizeTold (q .size) (tableSize q) (tablePlan (q .severity) (q .size) (q .level) (q .column))
   unfolding tablePlan
