@@ -1,4 +1,3 @@
-pub mod Arrows
 pub mod Letters
 pub mod Master
 pub mod OneResult

@@ -1,8 +1,6 @@
 -- Document 01's numbers and values for each case of the code's types. Definitions only.
-use Prim.Native.Nat.{ℕ, _+_, _-_}
-use mathlib.Core.Bool.{cond, false}
-use lib.Dec.{eqb}
-use Rattle.plans.specs.declared.Row.{Row}
+use Prim.Native.Nat.{ℕ}
+use mathlib.Core.Bool.{false}
 use Rattle.plans.specs.declared.Asked.{Asked}
 use Rattle.plans.specs.declared.SinglePlan.{SinglePlan}
 use Rattle.plans.specs.declared.Verdict.{Verdict}
@@ -23,17 +21,6 @@ use Rattle.rules.specs.Entries as entries
 
 abbrev pub askedPaper : Asked → entries.Asked
 askedPaper q = record { severity = q .severity; size = q .size; level = q .level; column = q .column }
-
--- a box in a row of the code's table: 254 is an arrow down, 255 an arrow up, any other number is Ac
-abbrev pub boxIn : ℕ → paper.Box
-boxIn cell = cond (eqb cell 254) paper.down (cond (eqb cell 255) paper.up (paper.number cell))
-
-abbrev pub rowPaper : Row → paper.Row
-rowPaper r = record { first = r .0; last = r .1; there = boxIn (r .2); elsewhere = boxIn (r .3) }
-
--- the letter that an arrow goes to
-abbrev pub arrowTo : ℕ → ℕ → ℕ
-arrowTo arrow letter = cond (eqb arrow 254) (letter + 1) (letter - 1)
 
 abbrev pub planPaper : SinglePlan → paper.Plan
 planPaper p = record { letter = p .letter; n = p .n; ac = p .ac; tableN = p .«table_n»; cut = p .cut }

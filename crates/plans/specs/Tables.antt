@@ -1,9 +1,6 @@
--- The code's sizes and letters of Table 1 as lists, which `proofs/` shows to be those of rules, and a row of the master
--- tables by its numbers.
--- Definitions only.
+-- The code's sizes and letters of Table 1 as lists, which `proofs/` shows to be those of rules. Definitions only.
 use Prim.Native.Nat.{ℕ}
 use mathlib.Core.List.{List, [], _∷_}
-use Rattle.plans.specs.declared.Row.{Row}
 
 -- the last size of each row of Table 1 but the last ..
 abbrev pub upTo : List ℕ
@@ -28,6 +25,3 @@ letters =
     ∷ (3 ∷ 4 ∷ 6 ∷ 8 ∷ 11 ∷ 13 ∷ 14 ∷ [])
     ∷ (3 ∷ 4 ∷ 7 ∷ 9 ∷ 12 ∷ 14 ∷ 15 ∷ [])
     ∷ []
-
-abbrev pub row : ℕ → ℕ → ℕ → ℕ → Row
-row first last there elsewhere = record { 0 = first; 1 = last; 2 = there; 3 = elsewhere }

@@ -1,14 +1,15 @@
-// Single plans of document 01: the letter of Table 1, the boxes of the master tables, the arrows, the cut to the lot;
+// Single plans of document 01: the letter of Table 1, where it lands in a master table, Ac there, the cut to the lot;
 // and the types of a lot that is asked about, its plan and its verdict.
 ghost use mathlib.Core.Path.{_≡_};
-ghost use Prim.Native.Nat.{_+_, _-_, _≤_, _<_};
+ghost use Prim.Native.Nat.{_-_, _<_};
 ghost use lib.ListN.{getD};
 ghost use Rattle.rules.specs.Codes.{tableOne, above, rowOf, letterOf, tableOneLetter};
-ghost use Rattle.rules.specs.Single.{sizes, rowAt, boxAt, landing, landingOf, cutPlan, planAt, tighterAc};
+ghost use Rattle.rules.specs.Single.{sizes, acOf, boxAt, landingOf, cutPlan, planAt, tighterAc};
+ghost use Rattle.rules.specs.Straight.{lastToZero, lastNumber, acAlong};
 ghost use Rattle.rules.specs.Fractional.{shareAt, ownPlan};
 ghost use Rattle.rules.specs.Entries.{askedLetter, plainPlan, inFractions};
 ghost use Rattle.rules.specs.Refusals.{refused, andThen};
-ghost use Rattle.plans.specs.Paper.{boxIn, rowPaper, arrowTo, askedPaper, planPaper, letterPaper};
+ghost use Rattle.plans.specs.Paper.{askedPaper, planPaper, letterPaper};
 ghost use Rattle.plans.specs.Paper.{beside, itself, zeroPlan, plannedPaper, fractionalPaper, zeroFractional};
 ghost use Rattle.plans.specs.Paper.{fractionalPlanned};
 
@@ -108,14 +109,10 @@ const SIZES: [u16; 17] = [
     3150,
 ];
 
-// A box in a row is its Ac, or an arrow.
-const DOWN: u8 = 254;
+// Letter plus column where the normal table has Ac 0 and Ac 1; the tightened one has them one later.
+const AC_ZERO: u32 = 14;
 
-const UP: u8 = 255;
-
-// A row of a master table: the box that stands third is that of the letters from the first number to the second, the
-// fourth that of all other letters.
-struct Row(u8, u8, u8, u8);
+const AC_ONE: u32 = 17;
 
 // The lot that is asked about, under a severity.
 pub struct Asked {
@@ -225,105 +222,106 @@ pub fn asked_letter(lot: Asked) -> LetterAnswer
     }
 }
 
-// The rows of s from 14 to 26: matches, as a constant array is built anew on the stack at each use.
-fn normal_row(s: u64) -> Row
-    requires { ⌜ (14 ≤ s) × (s < 27) ⌝ }
-    ensures { λ r. ⌜ rowPaper r ≡ rowAt 0 s ⌝ }
+// The last letter plus column that goes to the 0: one past it, where the arrow points up. Columns 0 and 1, AQL 0.010 and
+// 0.015, end before the 1, so every letter goes to the 0; a column from 15 on, tightened 16, begins after the 0.
+fn last_to_zero(zero: u32, column: u32) -> u32
+    requires { ⌜ zero < 16 ⌝ }
+    ensures { λ r. ⌜ r ≡ lastToZero zero column ⌝ }
 {
-    match s {
-        14 => Row(0, 0, 0, 0),
-        15 => Row(0, 0, DOWN, UP),
-        16 => Row(15, 15, UP, DOWN),
-        17 => Row(0, 0, 1, 1),
-        18 => Row(0, 0, 2, 2),
-        19 => Row(0, 0, 3, 3),
-        20 => Row(0, 0, 5, 5),
-        21 => Row(0, 0, 7, 7),
-        22 => Row(0, 0, 10, 10),
-        23 => Row(0, 0, 14, 14),
-        24 => Row(0, 0, 21, 21),
-        25 => Row(0, 4, 30, UP),
-        _ => Row(0, 4, 44, UP),
+    if column <= 1 {
+        return zero + 2;
     }
+    if column <= zero {
+        return zero + 1;
+    }
+    zero
 }
 
-fn tightened_row(s: u64) -> Row
-    requires { ⌜ (14 ≤ s) × (s < 27) ⌝ }
-    ensures { λ r. ⌜ rowPaper r ≡ rowAt 1 s ⌝ }
+// Letter plus column past which a column holds no number: 24; but A to E hold numbers at 25 and 26 too, and E is at 25
+// in column 21, at 26 in column 22.
+fn last_number(column: u32) -> u32
+    ensures { λ r. ⌜ r ≡ lastNumber column ⌝ }
 {
-    match s {
-        14 => Row(0, 0, DOWN, DOWN),
-        15 => Row(0, 0, 0, 0),
-        16 => Row(0, 0, DOWN, UP),
-        17 => Row(0, 0, DOWN, DOWN),
-        18 => Row(0, 0, 1, 1),
-        19 => Row(0, 0, 2, 2),
-        20 => Row(0, 0, 3, 3),
-        21 => Row(0, 0, 5, 5),
-        22 => Row(0, 0, 8, 8),
-        23 => Row(0, 0, 12, 12),
-        24 => Row(0, 0, 18, 18),
-        25 => Row(0, 4, 27, UP),
-        _ => Row(0, 4, 41, UP),
+    if column <= 20 {
+        return 24;
     }
+    if column <= 21 {
+        return 25;
+    }
+    26
 }
 
-fn row_at(severity: u32, s: u64) -> Row
-    requires { ⌜ (severity < 2) × (14 ≤ s) × (s < 27) ⌝ }
-    ensures { λ r. ⌜ rowPaper r ≡ rowAt severity s ⌝ }
+// The letter that gives the size. Down a column of a master table, with v for an arrow down and ^ for one up, stand
+//     v .. v  0  ^  v  1  2  3 ..  ^ .. ^
+// the 0 where letter plus column is 14 and the 1 where it is 17, under tightened 15 and 18. So a letter before the 0 or
+// just after it goes to the 0, the next one to the 1, any past the last number back to that; all others stay. (Which
+// columns have no 0 or no 1: last_to_zero.) A lot of ten, level II, normal, AQL 0.10: B is 1 and the column 5; 1 + 5 is
+// before 14, so it goes to the 0, whose letter is 14 - 5 = 9: K, as there is no I.
+fn landing_letter(severity: u32, column: u32, letter: u8) -> u8
+    requires { ⌜ (severity < 2) × (column < 26) × (letter < 16) ⌝ }
+    ensures { λ r. ⌜ r ≡ landingOf severity column letter .letter ⌝ }
 {
-    if severity == NORMAL {
-        return normal_row(s);
+    let s = letter as u32 + column;
+    let zero = AC_ZERO + severity;
+    let one = AC_ONE + severity;
+    if s <= last_to_zero(zero, column) {
+        return (zero - column) as u8;
     }
-    tightened_row(s)
+    if s < one {
+        return (one - column) as u8;
+    }
+    let last = last_number(column);
+    if last < s {
+        return (last - column) as u8;
+    }
+    letter
 }
 
-// The box of a master table, at any letter and column.
-fn box_at(severity: u32, column: u32, letter: u8) -> u8
+// The acceptance numbers along letter plus column, normal and tightened; a constant array would be built anew on the
+// stack at each use.
+fn ac_along(severity: u32, s: u64) -> u16
     requires { ⌜ severity < 2 ⌝ }
-    ensures { λ r. ⌜ boxIn r ≡ boxAt severity column letter ⌝ }
+    ensures { λ r. ⌜ r ≡ acAlong severity s ⌝ }
+{
+    match severity {
+        0 => match s {
+            17 => 1,
+            18 => 2,
+            19 => 3,
+            20 => 5,
+            21 => 7,
+            22 => 10,
+            23 => 14,
+            24 => 21,
+            25 => 30,
+            26 => 44,
+            _ => 0,
+        },
+        _ => match s {
+            18 => 1,
+            19 => 2,
+            20 => 3,
+            21 => 5,
+            22 => 8,
+            23 => 12,
+            24 => 18,
+            25 => 27,
+            26 => 41,
+            _ => 0,
+        },
+    }
+}
+
+// The acceptance number in a box of a master table; 0 where an arrow stands.
+fn ac_at(severity: u32, column: u32, letter: u8) -> u16
+    requires { ⌜ severity < 2 ⌝ }
+    ensures { λ r. ⌜ r ≡ acOf (boxAt severity column letter) ⌝ }
 {
     let s = letter as u64 + column as u64;
-    if s < 14 {
-        return DOWN;
+    if (last_number(column) as u64) < s {
+        return 0;
     }
-    if 26 < s {
-        return UP;
-    }
-    let row = row_at(severity, s);
-    if letter < row.0 {
-        return row.3;
-    }
-    if row.1 < letter {
-        return row.3;
-    }
-    row.2
-}
-
-// The letter that an arrow goes to.
-fn arrow_to(arrow: u8, letter: u8) -> u8
-    requires { ⌜ ((arrow ≡ 254 → ⊥) → 1 ≤ letter) × (letter < 255) ⌝ }
-    ensures { λ r. ⌜ r ≡ arrowTo arrow letter ⌝ }
-{
-    if arrow == DOWN {
-        return letter + 1;
-    }
-    letter - 1
-}
-
-// The letter where the arrows from a letter end, with so many arrows left.
-fn land(severity: u32, column: u32, letter: u8, left: u8) -> u8
-    requires { ⌜ (severity < 2) × (column < 26) × (letter + left < 200) ⌝ }
-    ensures { λ r. ⌜ r ≡ landing left severity column letter .letter ⌝ }
-{
-    let cell = box_at(severity, column, letter);
-    if cell < DOWN {
-        return letter;
-    }
-    if left == 0 {
-        return letter;
-    }
-    land(severity, column, arrow_to(cell, letter), left - 1)
+    ac_along(severity, s)
 }
 
 // The plan of a lot by a letter, the size there and Ac: a size at or above the lot is cut to it.
@@ -359,14 +357,13 @@ fn size_of(letter: u8) -> u16
     0
 }
 
-// The plan where the arrows from a letter end.
+// The plan of a lot by its Table 1 letter.
 fn plan_from(severity: u32, size: u32, column: u32, letter: u8) -> SinglePlan
     requires { ⌜ (severity < 2) × (column < 26) × (letter < 16) ⌝ }
     ensures { λ r. ⌜ planPaper r ≡ planAt size (landingOf severity column letter) ⌝ }
 {
-    let at = land(severity, column, letter, 15);
-    let ac = box_at(severity, column, at) as u16;
-    cut_plan(size, at, size_of(at), ac)
+    let at = landing_letter(severity, column, letter);
+    cut_plan(size, at, size_of(at), ac_at(severity, column, at))
 }
 
 // The plan of a letter's own box, with no arrow and Ac 0.
@@ -510,9 +507,5 @@ fn tighter_column(column: u32) -> u32
 pub fn tighter_ac(letter: u8, column: u32) -> u16
     ensures { λ r. ⌜ r ≡ tighterAc letter column ⌝ }
 {
-    let cell = box_at(NORMAL, tighter_column(column), letter);
-    if cell < DOWN {
-        return cell as u16;
-    }
-    0
+    ac_at(NORMAL, tighter_column(column), letter)
 }

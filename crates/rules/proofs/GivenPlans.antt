@@ -32,7 +32,8 @@ use Rattle.rules.specs.PlanRules.{Held}
 use Rattle.rules.proofs.Answers.{then-given}
 use Rattle.rules.proofs.Fractions.{InMode, whole, fraction, in-mode}
 use Rattle.rules.proofs.Bounded.{by-le, all, all-at, all-at₃, both-left, both-right}
-use Rattle.rules.proofs.Tables.{letter-within, landing-letter, landing-box}
+use Rattle.rules.proofs.Landing.{landing-letter, landing-box}
+use Rattle.rules.proofs.Tables.{letter-within}
 use Rattle.rules.proofs.Deciding.{never-runs-out, never-past, sequence-decided}
 use Rattle.rules.proofs.Demands.Two.{staged-plan-given, sequential-plan-given, variables-plan-given}
 use Rattle.rules.proofs.Demands.Two.{single-plan-given}
@@ -174,11 +175,10 @@ table-right q s z c =
     let letter : ℕ = letterOf (q .size) (q .level) in
     let l : letter < 16 = letter-within (q .size) (q .level) in
     let at : Landing = landingOf (q .severity) (q .column) letter in
+    let there : at .letter < 17 = omega (arith, landing-letter (q .severity) (q .column) letter s c l) in
     let low : acOf (boxAt (q .severity) (q .column) (at .letter)) ≤ 65534 =
-    leb→le _ 65534
-    (all-at₃ 2 26 17 acBelow ac-all (q .severity) (q .column) (at .letter) s c
-    (landing-letter (q .severity) (q .column) letter s c l)) in
-    letter-right (q .size) (at .letter) (at .ac) z (landing-letter (q .severity) (q .column) letter s c l)
+    leb→le _ 65534 (all-at₃ 2 26 17 acBelow ac-all (q .severity) (q .column) (at .letter) s c there) in
+    letter-right (q .size) (at .letter) (at .ac) z there
     (subst (λ (b : Box). acOf b ≤ 65534) (landing-box (q .severity) (q .column) letter s c l) low)
 
 -- a single plan, of a table or of the book

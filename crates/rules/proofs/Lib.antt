@@ -33,6 +33,7 @@ pub mod LineForms
 pub mod LogRuns
 pub mod LookUp
 pub mod Moving
+pub mod Nearest
 pub mod Numbers
 pub mod Orders
 pub mod Parts

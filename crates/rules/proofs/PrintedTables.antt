@@ -13,7 +13,8 @@ use lib.ListN.{length, getD}
 use Rattle.rules.specs.Ascii.{ascii}
 use Rattle.rules.specs.Codes.{normal, tightened, letterNames, letters, SizeRow, tableOne, above, rowFrom, rowOf}
 use Rattle.rules.specs.Codes.{letterOf}
-use Rattle.rules.specs.Single.{Box, down, up, number, rowAt, boxAt, acOf}
+use Rattle.rules.specs.Single.{Box, down, up, number, boxAt}
+use Rattle.rules.specs.Straight.{acAlong}
 use Rattle.rules.specs.Book.{sameKey}
 use Rattle.rules.specs.Log.{splitAt, digitsFrom, letterName}
 use Rattle.rules.specs.Printed.{sizeRow, firstSize, printedBox, boxName}
@@ -93,10 +94,6 @@ pub boxes-as-printed : (severity column letter : ℕ) → severity < 2 → colum
 unfolding sameBox
 boxes-as-printed severity column letter s c l =
     same-key _ _ (holds-so _ (all-at₃ 2 26 17 sameBox same-box severity column letter s c l))
-
--- the number of a row, whichever letter holds it
-abbrev acAlong : ℕ → ℕ → ℕ
-acAlong severity s = acOf (rowAt severity s .there)
 
 isAlong : Box → ℕ → ℕ → Bool
 isAlong down severity s = true

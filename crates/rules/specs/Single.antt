@@ -122,7 +122,7 @@ follow up letter next = next (letter - 1)
 follow (number ac) letter next = landed letter ac
 
 -- "follow arrows until a box holds a number, and that letter gives the size": from a letter, with so many arrows left;
--- where none is left, the box there is read. From the letters A to R it holds a number then (proofs/Tables).
+-- where none is left, the box there is read. From the letters A to R it holds a number then (proofs/Landing).
 unfoldable pub landing : ℕ → ℕ → ℕ → ℕ → Landing
 landing zero severity column letter = landed letter (acOf (boxAt severity column letter))
 landing (suc left) severity column letter = follow (boxAt severity column letter) letter (landing left severity column)
