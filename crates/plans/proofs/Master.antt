@@ -1,4 +1,5 @@
--- The acceptance numbers that the code reads along s are those of the master tables, and so are those of their boxes.
+-- The acceptance numbers that the code reads along s are those of the master tables, and so is the Ac that it reads at
+-- each box, and the plan where a letter lands.
 -- Assumes nothing.
 use Prim.Native.Nat.{ℕ, zero, suc, _+_, _-_, _≤_, _<_}
 use mathlib.Core.Path.{_≡_, refl, ap, sym, _∙_}

@@ -109,7 +109,7 @@ const SIZES: [u16; 17] = [
     3150,
 ];
 
-// Letter plus column where the normal table has Ac 0 and Ac 1; the tightened one has them one later.
+// Letter plus column where the normal table has Ac 0 and Ac 1; the tightened one, severity 1, has them one later.
 const AC_ZERO: u32 = 14;
 
 const AC_ONE: u32 = 17;
@@ -222,19 +222,19 @@ pub fn asked_letter(lot: Asked) -> LetterAnswer
     }
 }
 
-// The last letter plus column that goes to the 0: one past it, where the arrow points up. Columns 0 and 1, AQL 0.010 and
-// 0.015, end before the 1, so every letter goes to the 0; a column from 15 on, tightened 16, begins after the 0.
-fn last_to_zero(zero: u32, column: u32) -> u32
-    requires { ⌜ zero < 16 ⌝ }
-    ensures { λ r. ⌜ r ≡ lastToZero zero column ⌝ }
+// The last letter plus column that goes to Ac 0: one past it, where the arrow points up. Columns 0 and 1, AQL 0.010 and
+// 0.015, end before Ac 1, so every letter goes to Ac 0; a column over 14, tightened 15, begins after Ac 0.
+fn last_to_zero(zero_at: u32, column: u32) -> u32
+    requires { ⌜ «zero_at» < 16 ⌝ }
+    ensures { λ r. ⌜ r ≡ lastToZero «zero_at» column ⌝ }
 {
     if column <= 1 {
-        return zero + 2;
+        return zero_at + 2;
     }
-    if column <= zero {
-        return zero + 1;
+    if column <= zero_at {
+        return zero_at + 1;
     }
-    zero
+    zero_at
 }
 
 // Letter plus column past which a column holds no number: 24; but A to E hold numbers at 25 and 26 too, and E is at 25
@@ -251,28 +251,29 @@ fn last_number(column: u32) -> u32
     26
 }
 
-// The letter that gives the size. Down a column of a master table, with v for an arrow down and ^ for one up, stand
+// The letter that gives the size. Letters count from A, which is 0, without I and O; columns from AQL 0.010, which is
+// 0. Down a column of a master table, of each box Ac alone, v for an arrow down and ^ for one up, stand
 //     v .. v  0  ^  v  1  2  3 ..  ^ .. ^
-// the 0 where letter plus column is 14 and the 1 where it is 17, under tightened 15 and 18. So a letter before the 0 or
-// just after it goes to the 0, the next one to the 1, any past the last number back to that; all others stay. (Which
-// columns have no 0 or no 1: last_to_zero.) A lot of ten, level II, normal, AQL 0.10: B is 1 and the column 5; 1 + 5 is
-// before 14, so it goes to the 0, whose letter is 14 - 5 = 9: K, as there is no I.
+// with Ac 0 where letter plus column is 14 and Ac 1 where it is 17, under tightened 15 and 18. So a letter before Ac 0
+// or just after it goes to Ac 0, the next one to Ac 1, any past the last number back to that; all others stay. (Columns
+// that begin after Ac 0 or end before Ac 1: last_to_zero.) A lot of ten, level II, is B in Table 1, which is 1; normal,
+// AQL 0.10, is column 5. 1 + 5 is before 14, so it goes to Ac 0, whose letter is 14 - 5 = 9: K.
 fn landing_letter(severity: u32, column: u32, letter: u8) -> u8
     requires { ⌜ (severity < 2) × (column < 26) × (letter < 16) ⌝ }
     ensures { λ r. ⌜ r ≡ landingOf severity column letter .letter ⌝ }
 {
     let s = letter as u32 + column;
-    let zero = AC_ZERO + severity;
-    let one = AC_ONE + severity;
-    if s <= last_to_zero(zero, column) {
-        return (zero - column) as u8;
+    let zero_at = AC_ZERO + severity;
+    let one_at = AC_ONE + severity;
+    if s <= last_to_zero(zero_at, column) {
+        return (zero_at - column) as u8;
     }
-    if s < one {
-        return (one - column) as u8;
+    if s < one_at {
+        return (one_at - column) as u8;
     }
-    let last = last_number(column);
-    if last < s {
-        return (last - column) as u8;
+    let last_at = last_number(column);
+    if last_at < s {
+        return (last_at - column) as u8;
     }
     letter
 }

@@ -1,5 +1,5 @@
--- Where the arrows of document 01 end: at the letter that Straight names. One test, computed once over all letters,
--- columns and both tables, says that each arrow points to that letter; all else here follows from it.
+-- Where the arrows of document 01 end: at the letter that Straight names. One test, computed once over the letters A to
+-- R, all columns and both tables, says that each arrow points to that letter; where each letter lands follows from it.
 -- Assumes nothing.
 use Prim.Native.Nat.{ℕ, zero, suc, _+_, _-_, _≤_, _<_}
 use mathlib.Core.Path.{_≡_, refl, sym, ap, subst, _∙_}
@@ -32,7 +32,7 @@ module _ (severity column letter : ℕ) where
   unfolding landing
   landing-up left e = rw e
 
--- Where so many arrows lead, the walk ends that has as many left.
+-- A walk ends where the table's arrows lead, if it has so many left or more.
 led-lands : (severity column letter k left : ℕ) (l : Landing) → Leads severity column letter k l → k ≤ left
     → landing left severity column letter ≡ l
 led-lands severity column letter k left l (there _ ac e) h = landing-number severity column letter left ac e
@@ -70,8 +70,8 @@ holdsNumber down = false
 holdsNumber up = false
 holdsNumber (number ac) = true
 
--- an arrow points to the letter named, its next letter is sent there too, and that letter's box holds a number; a box
--- with a number sends its letter nowhere
+-- an arrow points the way to the letter named, the letter that it leads to is sent there too, and the box of the letter
+-- named holds a number; a box with a number sends its letter nowhere
 sends : Box → ℕ → ℕ → (ℕ → ℕ) → Bool → Bool
 sends down letter to next ends = ltb letter to && (eqb (next (letter + 1)) to && ends)
 sends up letter to next ends = ltb to letter && (eqb (next (letter - 1)) to && ends)
@@ -95,7 +95,7 @@ number-there down t = absurd t
 number-there up t = absurd t
 number-there (number ac) t = refl
 
--- a letter that is sent on holds the arrow that points there, and the letter after it is sent to the same
+-- a letter that is sent on holds the arrow that points there, and the letter that it leads to is sent to the same
 module _ (letter to : ℕ) (next : ℕ → ℕ) (ends : Bool) where
   sent-down : (b : Box) → T (sends b letter to next ends) → letter < to → (b ≡ down) × (next (letter + 1) ≡ to)
   unfolding sends

@@ -2,16 +2,16 @@
 -- tighter. Where the arrows end: Landing.
 -- Assumes nothing.
 use Prim.Native.Nat.{ℕ, _-_, _≤_, _<_}
-use mathlib.Core.Path.{_≡_, refl, sym, ap, subst}
+use mathlib.Core.Path.{_≡_, refl, sym, subst}
 use mathlib.Core.Bool.{Bool, true, false, cond, _&&_}
 use mathlib.Core.List.{List, [], _∷_}
 use native.Mathlib.Omega.{arith}
-use lib.Dec.{T, leb, leb→le, le→leb, eqb, eqb→eq}
+use lib.Dec.{T, leb, leb→le, le→leb}
 use lib.ListN.{getD}
 use borrow.Author.Tests.{lt-leb}
 use Rattle.rules.specs.Codes.{normal, letters, SizeRow, tableOne, above, goesUpTo, rowFrom, rowOf, letterOf}
 use Rattle.rules.specs.Single as paper
-use Rattle.rules.specs.Single.{Box, down, up, number, boxAt, landingOf, acOf, tighterAc}
+use Rattle.rules.specs.Single.{Box, up, number, boxAt, landingOf, acOf, tighterAc}
 use Rattle.rules.specs.Single.{Line, masterTable, rowIn, rowAt}
 use Rattle.rules.proofs.Bounded.{both-left, both-right, implies, implies-at, all, all-at, all-at₂}
 use Rattle.rules.proofs.Bounded.{each, each-at}

@@ -1,7 +1,8 @@
 -- Document 02, T-06, 'Drop the arrow walk': "name the landing letter straight from letter, column and severity". Down
--- a column of a master table stand, as far as its letters go, arrows down, Ac 0, an arrow up and one down, Ac 1 and the
--- numbers after it, and arrows up. So a letter goes to Ac 0, to Ac 1 or back to the last number, or it stays: to the
--- nearest number (proofs/Nearest). A place in a column is told by its s, letter plus column. Definitions only.
+-- a column of a master table stand, as far as its letters go and but for three boxes (`lastToZero`), arrows down, Ac 0,
+-- an arrow up and one down, Ac 1 and the numbers after it, and arrows up. So a letter goes to Ac 0, to Ac 1 or back to
+-- the last number, or it stays: it lands at the nearest number (proofs/Nearest). A place in a column is told by its s,
+-- letter plus column. Definitions only.
 use Prim.Native.Nat.{ℕ, _+_, _-_}
 use mathlib.Core.Bool.{cond}
 use lib.Dec.{leb, ltb}
@@ -15,8 +16,8 @@ zeroAt severity = 14 + severity
 abbrev pub oneAt : ℕ → ℕ
 oneAt severity = 17 + severity
 
--- The last s that goes to Ac 0: one past it, "up". The columns 0.010 and 0.015 end before Ac 1, and every letter goes
--- there, "up at R"; a column past it has no Ac 0, "down at A".
+-- The last s that goes to Ac 0: one past it, "up". The columns 0.010 and 0.015 end before Ac 1, so that every letter
+-- goes to Ac 0, "up at R"; a column over 14, tightened 15, begins after Ac 0, "down at A".
 abbrev pub lastToZero : ℕ → ℕ → ℕ
 lastToZero ac0 column = cond (leb column 1) (ac0 + 2) (cond (leb column ac0) (ac0 + 1) ac0)
 

@@ -12,13 +12,13 @@ returns-2 : tie.Need-returns-2
 returns-2 c =
     let a = c .before .before .args in
     let past = lt-leb (a .column) 1 (omega (arith, c .before .if1 .left)) in
-    rw (past, le-leb (a .column) (a .zero) (omega (arith, c .if2 .taken)))
+    rw (past, le-leb (a .column) (a .zero-at) (omega (arith, c .if2 .taken)))
 
 returns-3 : tie.Need-returns-3
 returns-3 c =
     let a = c .before .before .args in
     let past = lt-leb (a .column) 1 (omega (arith, c .before .if1 .left)) in
-    rw (past, lt-leb (a .column) (a .zero) (omega (arith, c .if2 .left)))
+    rw (past, lt-leb (a .column) (a .zero-at) (omega (arith, c .if2 .left)))
 
 pub last-to-zero-spec : {M : Type 1} → statement M
 last-to-zero-spec = tie.close (tie.spec (λ c. search needs) returns (λ c. search needs) returns-2 returns-3)

@@ -1,4 +1,4 @@
--- `plans::plan_from` meets its contract: the size and the Ac are those of the letter where it lands.
+-- `plans::plan_from` meets its contract: the size and the Ac are those of the letter where the lot's letter lands.
 -- Assumes nothing.
 use borrow.Author.Needs.{needs}
 use native.Mathlib.Omega.{arith}
