@@ -90,11 +90,9 @@ module _ (severity column letter : ℕ) (v : severity < 2) where
   unfolding boxAt
   ac-past h =
       by-le (letter + column) 26
-      (λ p. let e : 4 < letter =
+      (λ p. let e : (4 < letter) × (24 < letter + column) =
       last-by-column column (λ q f. omega arith) (λ q f. omega arith) (λ q f. omega arith) in
-      let f : 24 < letter + column =
-      last-by-column column (λ q f. omega arith) (λ q f. omega arith) (λ q f. omega arith) in
-      rw (← at-E severity (letter + column) v f p, lt-leb letter 4 e, and-false))
+      rw (← at-E severity (letter + column) v (e .1) p, lt-leb letter 4 (e .0), and-false))
       (λ p. rw (row-over severity (letter + column) v p)
       (either (leb 0 letter && leb letter 0) paper.up paper.up refl))
 

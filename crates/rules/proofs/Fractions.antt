@@ -13,7 +13,7 @@ use lib.ListN.{getD}
 use Rattle.rules.specs.Refusals.{Answer, refused, given, _gives_, firstOf, andThen, unknownForm, noPlan}
 use Rattle.rules.specs.Codes.{normal, tightened, reduced}
 use Rattle.rules.specs.Verdict.{Verdict, Judged}
-use Rattle.rules.specs.Single.{Box, down, up, number, Row, rowAt, boxOf, boxAt, Plan, judgeItems}
+use Rattle.rules.specs.Single.{number, Row, rowAt, boxOf, boxAt, Plan, judgeItems}
 use Rattle.rules.specs.Severity.{Lot, addTwo, lot, counted}
 use Rattle.rules.specs.Fractional.{half, third, _holds_, fractions, shareIn, shareAt, hasFractionalPlan}
 use Rattle.rules.specs.Fractional.{FractionalPlan, planOfShare, fractionAccepts, fractionVerdict, verdictByShare}
@@ -30,6 +30,7 @@ use Rattle.rules.proofs.Bounded.{both-left, both-right, implies, implie
 use Rattle.rules.proofs.Answers.{refused-given, given-one, then-given, then-alike, then-then}
 use Rattle.rules.proofs.Moving.{lot-counts, sampled-counts}
 use Rattle.rules.proofs.Refusals.{first-given}
+use Rattle.rules.proofs.Landing.{holdsNumber}
 use Rattle.rules.proofs.EntryLaws.{sound-given, judged-given}
 
 -- a severity that has one third at a and one half at b
@@ -133,19 +134,14 @@ none-from-reduced zero column letter h = absurd (omega arith)
 none-from-reduced (suc zero) column letter h = absurd (omega arith)
 none-from-reduced (suc (suc severity)) column letter h = refl
 
-isArrow : Box → Bool
-isArrow down = true
-isArrow up = true
-isArrow (number ac) = false
-
 -- a row with a fraction holds no number, at no letter
 noNumber : ℕ → ℕ → Bool
 noNumber severity s =
     implies (not (eqb (shareIn (getD fractions severity []) s) 0))
-    (isArrow (rowAt severity s .there) && isArrow (rowAt severity s .elsewhere))
+    (not (holdsNumber (rowAt severity s .there)) && not (holdsNumber (rowAt severity s .elsewhere)))
 
 no-numbers : T (all 2 (λ severity. all 18 (noNumber severity)))
-unfolding noNumber isArrow shareIn
+unfolding noNumber holdsNumber shareIn
 no-numbers = tt
 
 -- the bounds of that test
@@ -155,18 +151,18 @@ within severity s (inl (inr h)) = omega arith
 within severity s (inr (inl h)) = omega arith
 within severity s (inr (inr h)) = omega arith
 
-arrow-at : (row : Row) (letter : ℕ) → T (isArrow (row .there) && isArrow (row .elsewhere))
-    → T (isArrow (boxOf row letter))
+arrow-at : (row : Row) (letter : ℕ) → T (not (holdsNumber (row .there)) && not (holdsNumber (row .elsewhere)))
+    → T (not (holdsNumber (boxOf row letter)))
 arrow-at row letter t = go (leb (row .first) letter && leb letter (row .last))
   where
-    go : (b : Bool) → T (isArrow (cond b (row .there) (row .elsewhere)))
-    go true = both-left (isArrow (row .there)) _ t
-    go false = both-right (isArrow (row .there)) _ t
+    go : (b : Bool) → T (not (holdsNumber (cond b (row .there) (row .elsewhere))))
+    go true = both-left (not (holdsNumber (row .there))) _ t
+    go false = both-right (not (holdsNumber (row .there))) _ t
 
 -- The master tables hold no number where a fraction stands, at any letter and column: none is replaced.
 pub fraction-arrow : (severity column letter ac : ℕ) → (shareAt severity column letter ≡ 0 → ⊥)
     → boxAt severity column letter ≡ number ac → ⊥
-unfolding boxAt shareAt noNumber isArrow
+unfolding boxAt shareAt noNumber holdsNumber
 fraction-arrow severity column letter ac some e =
     let w = within severity (letter + column) (fraction-exactly severity column letter .0 some) in
     let t = all-at₂ 2 18 noNumber no-numbers severity (letter + column) (w .0) (w .1) in
