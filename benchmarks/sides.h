@@ -9,10 +9,11 @@
 typedef uint32_t judge(uint32_t size, uint32_t level, uint32_t column, uint32_t severity, const uint8_t *book,
                        size_t book_len, const uint8_t *sample, size_t sample_len, uint8_t *accepted, uint16_t *used);
 
-/* The book of four lists of rows. */
+/* The book of five lists of rows. */
 typedef uint32_t writer(const uint8_t *reduced, size_t reduced_len, const uint8_t *staged, size_t staged_len,
                         const uint8_t *sequential, size_t sequential_len, const uint8_t *variables,
-                        size_t variables_len, uint8_t *out, size_t out_len, uint32_t *written);
+                        size_t variables_len, const uint8_t *sigma, size_t sigma_len, uint8_t *out, size_t out_len,
+                        uint32_t *written);
 
 enum { PROVED, PLAIN, SIDES };
 
@@ -26,6 +27,13 @@ struct side {
     uint32_t (*variables)(uint32_t size, uint32_t level, uint32_t column, uint32_t severity, const uint8_t *book,
                           size_t book_len, const uint8_t *readings, size_t readings_len, int32_t limit,
                           uint8_t *accepted, uint16_t *used);
+    uint32_t (*variables_both)(uint32_t size, uint32_t level, uint32_t upper_column, uint32_t lower_column,
+                               uint32_t severity, const uint8_t *book, size_t book_len, const uint8_t *readings,
+                               size_t readings_len, int32_t upper, int32_t lower, uint8_t *accepted, uint16_t *used);
+    uint32_t (*sigma_both)(uint32_t size, uint32_t level, uint32_t upper_column, uint32_t lower_column,
+                           uint32_t severity, const uint8_t *book, size_t book_len, const uint8_t *readings,
+                           size_t readings_len, int32_t upper, int32_t lower, uint32_t sigma, uint8_t *accepted,
+                           uint16_t *used);
     uint32_t (*close_fractional)(uint8_t *record, size_t record_len, uint32_t resubmitted, uint32_t size,
                                  uint32_t level, uint32_t column, const uint8_t *book, size_t book_len,
                                  const uint8_t *sample, size_t sample_len, uint8_t *accepted, uint16_t *used,

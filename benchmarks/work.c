@@ -11,13 +11,13 @@
 
 const struct side sides[SIDES] = {
     {hm_plan, hm_fractional_plan, hm_single, hm_curtailed, hm_staged, hm_sequential, hm_variables_upper,
-     hm_close_fractional, hm_check_book, hm_write_book, hm_list},
+     hm_variables_both, hm_sigma_both, hm_close_fractional, hm_check_book, hm_write_book, hm_list},
     {ref_plan, ref_fractional_plan, ref_single, ref_curtailed, ref_staged, ref_sequential, ref_variables_upper,
-     ref_close_fractional, ref_check_book, ref_write_book, ref_list},
+     ref_variables_both, ref_sigma_both, ref_close_fractional, ref_check_book, ref_write_book, ref_list},
 };
 
 enum { MOST_ITEMS = 14000, MOST_HISTORY = 1000000, STAGES = 7 };
-enum { SECTIONS = 4, BANDS = 15, LEVELS = 7, LETTERS = 16, COLUMNS = 26, ITEM_COLUMNS = 16 };
+enum { SECTIONS = 5, BANDS = 15, LEVELS = 7, LETTERS = 16, COLUMNS = 26, ITEM_COLUMNS = 16 };
 
 /* The step from a lot to the next one is a prime, and reaches them all. */
 enum { LOTS = 2 * BANDS * LEVELS * COLUMNS * 2, SCATTER = 7919 };
@@ -52,8 +52,8 @@ static void put_item(unsigned number) {
 
 /* The book of the rows that were put; its buffer has HM_BOOK_BYTES. */
 static uint32_t write_rows(writer *by, uint8_t *bytes, uint32_t *len) {
-    return by(rows[0], rows_len[0], rows[1], rows_len[1], rows[2], rows_len[2], rows[3], rows_len[3], bytes,
-              HM_BOOK_BYTES, len);
+    return by(rows[0], rows_len[0], rows[1], rows_len[1], rows[2], rows_len[2], rows[3], rows_len[3], rows[4],
+              rows_len[4], bytes, HM_BOOK_BYTES, len);
 }
 
 static void make_book(void) {
@@ -227,6 +227,23 @@ static uint64_t run_variables(const struct side *side) {
     return verdict(status, accepted, used);
 }
 
+/* A known spread, and two limits under two columns. */
+static void prepare_sigma(size_t size) {
+    const unsigned numbers[] = {HM_NORMAL, HM_LETTER_R, HM_AQL_0_10, (unsigned)size, 1500,
+                                HM_NORMAL, HM_LETTER_R, HM_AQL_0_15, (unsigned)size, 1400};
+    begin((struct lot){500001, HM_LEVEL_III, HM_AQL_0_15, HM_NORMAL});
+    one_entry(HM_SIGMA_SECTION, numbers, sizeof numbers / sizeof *numbers);
+    put_readings(size);
+}
+
+static uint64_t run_sigma(const struct side *side) {
+    uint8_t accepted = 0;
+    uint16_t used = 0;
+    uint32_t status = side->sigma_both(lot.size, lot.level, lot.column, lot.column - 1, lot.severity, book, book_len,
+                                       sample, sample_len, 300, -300, 1000, &accepted, &used);
+    return verdict(status, accepted, used);
+}
+
 /* ---- a full book, or one with a tenth of its entries; the lot's variables plan is its last entry */
 
 /* The places past the stages are 0. */
@@ -241,8 +258,8 @@ static void put_stages(unsigned stages) {
 }
 
 static void put_body(unsigned section, unsigned stages) {
-    static const unsigned bodies[][5] = {{80, 2}, {0}, {1750, 2247, 9570, 98, 9}, {2, 1500}};
-    static const unsigned numbers[] = {2, 0, 5, 2};
+    static const unsigned bodies[SECTIONS][5] = {{80, 2}, {0}, {1750, 2247, 9570, 98, 9}, {2, 1500}, {2, 1500}};
+    static const unsigned numbers[SECTIONS] = {2, 0, 5, 2, 2};
     if (section == HM_STAGED_SECTION)
         put_stages(stages);
     put_numbers(section, bodies[section], numbers[section]);
@@ -261,7 +278,7 @@ static void put_section(unsigned section, unsigned entries, unsigned sevens, uns
 
 /* Every reduced, sequential and variables plan that there can be, and staged ones until 32,768 bytes are full. */
 static void prepare_rows(size_t size) {
-    static const unsigned entries[] = {416, 322, 768, 768};
+    static const unsigned entries[SECTIONS] = {416, 322, 768, 768};
     bool full = size == HM_BOOK_BYTES;
     unsigned part = full ? 1 : 10;
     begin(full ? (struct lot){500001, HM_LEVEL_III, HM_AQL_10, HM_REDUCED}
@@ -275,6 +292,14 @@ static void prepare_book(size_t size) {
     prepare_rows(size);
     make_book();
     put_readings(2);
+}
+
+static uint64_t run_both(const struct side *side) {
+    uint8_t accepted = 0;
+    uint16_t used = 0;
+    uint32_t status = side->variables_both(lot.size, lot.level, lot.column, lot.column - 1, lot.severity, book,
+                                           book_len, sample, sample_len, 300, -300, &accepted, &used);
+    return verdict(status, accepted, used);
 }
 
 static uint64_t run_check(const struct side *side) {
@@ -327,8 +352,10 @@ const struct work works[WORKS] = {
     {"a staged sample", "items", 14000, 14000, 0, prepare_staged, run_staged},
     {"a sequential sample", "items", 3150, 3150, 0, prepare_sequential, run_sequential},
     {"variables", "readings", 50, 50, 0, prepare_variables, run_variables},
+    {"two limits, a known spread", "readings", 50, 50, 0, prepare_sigma, run_sigma},
     {"a full book checked", "bytes", HM_BOOK_BYTES, HM_BOOK_BYTES, 500e3, prepare_book, run_check},
     {"a full book checked and searched", "bytes", HM_BOOK_BYTES, HM_BOOK_BYTES, 500e3, prepare_book, run_variables},
+    {"two limits in a full book", "bytes", HM_BOOK_BYTES, HM_BOOK_BYTES, 500e3, prepare_book, run_both},
     {"a full book written", "bytes", HM_BOOK_BYTES, HM_BOOK_BYTES, 500e3, prepare_rows, run_write},
     {"a supply's history listed", "bytes", MOST_HISTORY, 10000, 20e6, prepare_history, run_history},
     {"a history of any bytes listed", "bytes", MOST_HISTORY, 10000, 20e6, prepare_any_history, run_history},

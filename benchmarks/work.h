@@ -13,7 +13,7 @@ struct work {
     uint64_t (*run)(const struct side *side); /* gives a digest of all that was answered */
 };
 
-enum { WORKS = 13 };
+enum { WORKS = 15 };
 extern const struct work works[WORKS];
 
 /* Prints lines for lotlog: lots, orders and now and then a line of no known form. */

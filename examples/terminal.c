@@ -1,8 +1,9 @@
 /*
  * A bench's day through the C terminal: a small book written from its entries and read back; the plans of a lot, and
- * one that is the whole lot; a lot of each kind sentenced, one of them only until it is lost; then lots closed on the
- * record of their supply, with a history that is kept and listed; last, small lots of another supply in the mode of
- * fractions. Link with libterminal.a. What it prints stands in terminal.out.
+ * one that is the whole lot; a lot of each kind sentenced, one of them only until it is lost, others by two limits and
+ * with a known spread; then lots closed on the record of their supply, with a history that is kept and listed; last,
+ * small lots of another supply in the mode of fractions. Link with libterminal.a. What it prints stands in
+ * terminal.out.
  */
 #include "../include/hipomoake.h"
 
@@ -18,7 +19,7 @@ enum { SIZE = 1000, LEVEL = HM_LEVEL_II, COLUMN = HM_AQL_1_0 };
 
 /* clang-format off */
 
-/* The entries of the book: four lists of rows. */
+/* The entries of the book: five lists of rows. */
 static const uint8_t reduced[] = { /* letter, column, n, Ac */
     NUMBER(HM_LETTER_J), NUMBER(HM_AQL_1_0), NUMBER(32), NUMBER(1),
 };
@@ -34,6 +35,10 @@ static const uint8_t sequential[] = { /* severity, letter, column, hA, hR, g, nt
 };
 static const uint8_t variables[] = { /* severity, letter, column, n, K */
     NUMBER(HM_NORMAL), NUMBER(HM_LETTER_J), NUMBER(HM_AQL_1_0), NUMBER(3), NUMBER(3500),
+    NUMBER(HM_NORMAL), NUMBER(HM_LETTER_J), NUMBER(HM_AQL_2_5), NUMBER(3), NUMBER(2000),
+};
+static const uint8_t sigma_plans[] = { /* the same, for a spread that is known */
+    NUMBER(HM_NORMAL), NUMBER(HM_LETTER_J), NUMBER(HM_AQL_1_0), NUMBER(2), NUMBER(1000),
 };
 
 /* A key typed twice does not rise: the second row is bad. */
@@ -70,9 +75,9 @@ static int is_answered(const char *what, uint32_t status) {
 
 /* ---- the book: written from its entries, and read back */
 
-static void write_book(const char *what, const uint8_t *last_list, size_t last_len) {
+static void write_book(const char *what, const uint8_t *fourth, size_t fourth_len) {
     uint32_t status = hm_write_book(reduced, sizeof reduced, staged, sizeof staged, sequential, sizeof sequential,
-                                    last_list, last_len, book, sizeof book, &book_len);
+                                    fourth, fourth_len, sigma_plans, sizeof sigma_plans, book, sizeof book, &book_len);
     if (is_answered(what, status))
         printf("%-16s %u bytes\n", what, (unsigned)book_len);
 }
@@ -94,7 +99,8 @@ static void print_stages(const uint8_t *row, unsigned stages) {
 static void print_entry(const char *what, unsigned section, const uint8_t *row, unsigned numbers) {
     static const char *const names[][5] = {[HM_REDUCED_SECTION] = {"n", "Ac"},
                                            [HM_SEQUENTIAL_SECTION] = {"hA", "hR", "g", "nt", "At"},
-                                           [HM_VARIABLES_SECTION] = {"n", "K"}};
+                                           [HM_VARIABLES_SECTION] = {"n", "K"},
+                                           [HM_SIGMA_SECTION] = {"n", "K"}};
     unsigned keys = section == HM_REDUCED_SECTION ? 2 : 3;
     char severity = severity_letters[section == HM_REDUCED_SECTION ? HM_REDUCED : HM_NUMBER_AT(row, 0)];
     printf("%-16s severity %c, letter %c, AQL %s:", what, severity, HM_LETTERS[HM_NUMBER_AT(row, keys - 2)],
@@ -124,6 +130,7 @@ static void print_book(void) {
     print_section("book, staged", HM_STAGED_SECTION);
     print_section("book, sequential", HM_SEQUENTIAL_SECTION);
     print_section("book, variables", HM_VARIABLES_SECTION);
+    print_section("book, sigma", HM_SIGMA_SECTION);
 }
 
 /* ---- plans: what to draw */
@@ -228,8 +235,27 @@ static void judge_readings(void) {
     status = hm_variables_lower(SIZE, LEVEL, COLUMN, HM_NORMAL, book, book_len, readings, sizeof readings, 6, &accepted,
                                 &used);
     print_verdict("variables, lower", status, accepted, used);
+    status = hm_variables_both(SIZE, LEVEL, HM_AQL_2_5, COLUMN, HM_NORMAL, book, book_len, readings, sizeof readings,
+                               17, 5, &accepted, &used);
+    print_verdict("variables, both", status, accepted, used);
     if (is_answered("screen", hm_screen(readings, sizeof readings, &mean, &variance, &both)) && both)
         printf("%-16s mean %.3f, variance %.3f\n", "screen", mean, variance);
+}
+
+/* The gauge's spread is known: one gauge unit, 1,000 thousandths of it. */
+static void judge_with_known_spread(void) {
+    static const uint8_t readings[] = {NUMBER(10), NUMBER(12)};
+    uint8_t accepted = 0;
+    uint16_t used = 0;
+    uint32_t status = hm_sigma_upper(SIZE, LEVEL, COLUMN, HM_NORMAL, book, book_len, readings, sizeof readings, 12,
+                                     1000, &accepted, &used);
+    print_verdict("sigma, upper", status, accepted, used);
+    status = hm_sigma_lower(SIZE, LEVEL, COLUMN, HM_NORMAL, book, book_len, readings, sizeof readings, 11, 1000,
+                            &accepted, &used);
+    print_verdict("sigma, lower", status, accepted, used);
+    status = hm_sigma_both(SIZE, LEVEL, COLUMN, COLUMN, HM_NORMAL, book, book_len, readings, sizeof readings, 12, 10,
+                           1000, &accepted, &used);
+    print_verdict("sigma, both", status, accepted, used);
 }
 
 /* ---- a supply: its record, and its history from the bytes that are told */
@@ -392,6 +418,7 @@ int main(void) {
     judge_items();
     judge_until_lost();
     judge_readings();
+    judge_with_known_spread();
     close_lots();
     list_history();
     history[history_len++] = HM_CORRECTIVE; /* a corrective order, though inspection is not stopped */

@@ -1,7 +1,7 @@
 /*
  * Hipomoake for C: acceptance sampling by attributes (single, in full or curtailed, with fractional acceptance numbers
- * or without; staged; sequential) and by variables (s method), with the severity record of a supply and the severities
- * of its history.
+ * or without; staged; sequential) and by variables (s method, or sigma method where the spread is known; one limit or
+ * two), with the severity record of a supply and the severities of its history.
  *
  * THE ARCHIVE. `rt staticlib terminal` writes libterminal.a, for Linux on x86-64. On an Arm machine, link with a cross
  * compiler (x86_64-linux-gnu-gcc -static) and run the program under the kit's emulator, qemu-x86_64.
@@ -35,7 +35,8 @@
  * n items. A staged sample ends with the stage that decides, a sequential one with the item that decides. A curtailed
  * one ends with the item at which its total passes the single plan's Ac, where it does, and else at n.
  *
- * THE BOOK: at most HM_BOOK_BYTES bytes, four sections in this order, each after its count of entries; nothing follows.
+ * THE BOOK: at most HM_BOOK_BYTES bytes, sections in this order, each after its count of entries; nothing follows. The
+ * first four are always there, the fifth where anything follows the fourth: a book without it has no sigma plans.
  * An entry's numbers up to the bar are its key; keys rise strictly within a section, compared from the first number.
  *   1  reduced singles  letter column | n Ac                                n 1 to 3,150, Ac to 65,534
  *   2  staged           severity letter column | stages size.. Ac Re Ac Re..
@@ -46,11 +47,12 @@
  *                       hA and hR in thousandths, 1 or more; g in hundred-thousandths, 1 to 60,000; nt 1 to 3,150;
  *                       floor(g nt - hA) <= At < ceiling(g nt + hR)
  *   4  variables        severity letter column | n K                        n 2 to 50, K (k in thousandths) 1 to 4,000
+ *   5  sigma            as 4, for readings whose spread is known; where it is there it has an entry or more
  * Severity is HM_NORMAL to HM_REDUCED; letter, HM_LETTER_A to HM_LETTER_R, is that of Table 1 for the lot's size and
- * level (hm_letter); column is 0 to 25 in sections 1 and 2, 0 to 15 in 3 and 4. The place of a broken book is the
+ * level (hm_letter); column is 0 to 25 in sections 1 and 2, 0 to 15 in 3 to 5. The place of a broken book is the
  * lowest that applies: a number out of range, at its start; two numbers that break a rule, at the later; a key that
- * does not rise, at the entry's first number; bytes after section 4, at the first; a number missing or half there, at
- * the length.
+ * does not rise, at the entry's first number; a fifth count of 0, at that count; bytes after section 5, at the first; a
+ * number missing or half there, at the length: so one stray byte after section 4 is half a fifth count.
  *
  * ENTRIES AS ROWS. A book need not be typed: hm_write_book makes one from its entries, and hm_read_entry shows an entry
  * of one. In both an entry is a row of numbers, two bytes each, which begins with its key:
@@ -59,6 +61,7 @@
  *                    stages counts for nothing, and is shown as 0           HM_STAGED_NUMBERS, 25
  *   sequential       severity letter column hA hR g nt At                   HM_SEQUENTIAL_NUMBERS, 8
  *   variables        severity letter column n K                             HM_VARIABLES_NUMBERS, 5
+ *   sigma            the same                                               HM_SIGMA_NUMBERS, 5
  * After its first four numbers a staged row is as hm_staged_plan tells one: HM_STAGE_SIZE(HM_ENTRY_STAGES(row), stage),
  * and so HM_STAGE_AC and HM_STAGE_RE.
  *
@@ -87,8 +90,8 @@
  * column, by a sample that is not clean, also where it is accepted; by any other original lot: on a whole Ac, closed by
  * hm_close_single, hm_close_curtailed or hm_close_staged (also a lot that would be on the same fraction), or entered by
  * hm_next as a byte; and by a change of severity, for the lot that changes it as well. Orders that leave the severity,
- * resubmitted lots, and sequential and variables lots leave the run as it is; a resubmitted lot is judged by the run as
- * it stands.
+ * resubmitted lots, and sequential, variables and sigma lots leave the run as it is; a resubmitted lot is judged by the
+ * run as it stands.
  *
  * THE HISTORY of a supply: one byte for each lot and each order, HM_ACCEPTED_ADD_3 to HM_CORRECTIVE, from a fresh
  * record on. The functions that close a lot tell its byte; the byte of hm_next is its event. A bench that keeps the
@@ -132,15 +135,16 @@ enum {
     HM_UNKNOWN      = 1,  /* a severity over 3, an event or history byte over 9, a record out of range or length */
     HM_BAD_SIZE     = 2,  /* a lot size under 2 */
     HM_BAD_LEVEL    = 3,  /* a level over HM_LEVEL_III */
-    HM_BAD_COLUMN   = 4,  /* a column over HM_AQL_1000 */
+    HM_BAD_COLUMN   = 4,  /* a column over HM_AQL_1000; of two columns, either */
     HM_IS_STOPPED   = 5,  /* any lot, resubmitted ones too, while inspection is stopped */
-    HM_NO_PLAN      = 6,  /* no book entry under the lot's key; a staged total, nt or variables n above the size; a
-                             fraction at a column over HM_AQL_10; no such entry to read; a curtailed sample under
-                             HM_REDUCED */
+    HM_NO_PLAN      = 6,  /* no book entry under the lot's key; a staged total, nt or the n of readings above the size;
+                             a fraction at a column over HM_AQL_10; no such entry to read; a curtailed sample under
+                             HM_REDUCED; two limits whose entries differ in n */
     HM_BAD_LENGTH   = 7,  /* a sample of the wrong length, half an item included; a curtailed one that stops before
                              the deciding item or n, or goes on past it; for hm_screen not 1 to 50 readings */
     HM_BAD_ITEM     = 8,  /* an item over 1 where items are 0 or 1 */
-    HM_BAD_READING  = 9,  /* a reading or a limit not in -1,000 to 1,000 */
+    HM_BAD_READING  = 9,  /* a reading or a limit not in -1,000 to 1,000; sigma not in 1 to 1,000; of two limits, a
+                             lower one that is not below the upper */
     HM_NOT_STOPPED  = 10, /* a corrective order when inspection is not stopped */
     HM_SHORT_BUFFER = 11, /* fewer severities lent than the history has bytes; a row too short for a staged plan or an
                              entry; a book longer than the buffer lent for it, or than HM_BOOK_BYTES */
@@ -211,8 +215,11 @@ enum { HM_WHOLE_AC = 0, HM_ONE_HALF = 2, HM_ONE_THIRD = 3 };
 
 /* The sections of a book by number (section 1 of THE BOOK is 0 here), how many numbers a row of each has, bytes enough
    for any row, and where in a staged entry's row the row of its stages begins. */
-enum { HM_REDUCED_SECTION, HM_STAGED_SECTION, HM_SEQUENTIAL_SECTION, HM_VARIABLES_SECTION };
-enum { HM_REDUCED_NUMBERS = 4, HM_STAGED_NUMBERS = 25, HM_SEQUENTIAL_NUMBERS = 8, HM_VARIABLES_NUMBERS = 5 };
+enum { HM_REDUCED_SECTION, HM_STAGED_SECTION, HM_SEQUENTIAL_SECTION, HM_VARIABLES_SECTION, HM_SIGMA_SECTION };
+enum {
+    HM_REDUCED_NUMBERS = 4, HM_STAGED_NUMBERS = 25, HM_SEQUENTIAL_NUMBERS = 8, HM_VARIABLES_NUMBERS = 5,
+    HM_SIGMA_NUMBERS = 5
+};
 #define HM_ENTRY_BYTES 50
 #define HM_ENTRY_STAGES(row) ((row) + 8)
 
@@ -282,7 +289,7 @@ uint32_t hm_sequential_plan(uint32_t size, uint32_t level, uint32_t column, uint
                             uint16_t *at);
 
 /*
- * The variables plan for a lot, from the book.
+ * The variables plan (s method) for a lot, from the book.
  *   letter  that of Table 1
  *   n       readings to take
  *   k       in thousandths
@@ -338,6 +345,42 @@ uint32_t hm_variables_lower(uint32_t size, uint32_t level, uint32_t column, uint
                             uint8_t *accepted, uint16_t *used);
 
 /*
+ * The same with a known spread (sigma method), by the plan of the book's fifth section: with the sum S of the readings
+ * an upper limit U accepts when 1,000,000 (n U - S) >= K sigma n, a lower one L when 1,000,000 (S - n L) >= K sigma n.
+ * How many readings to take is the n of that plan, as the book has it (hm_read_entry, HM_SIGMA_SECTION).
+ *   sigma  the spread in thousandths of a gauge unit, 1 to 1,000
+ * Each refuses 1 2 3 4 5 6 7 9 12; 6 also where the book has no fifth section.
+ */
+uint32_t hm_sigma_upper(uint32_t size, uint32_t level, uint32_t column, uint32_t severity, const uint8_t *book,
+                        size_t book_len, const uint8_t *readings, size_t readings_len, int32_t limit, uint32_t sigma,
+                        uint8_t *accepted, uint16_t *used);
+uint32_t hm_sigma_lower(uint32_t size, uint32_t level, uint32_t column, uint32_t severity, const uint8_t *book,
+                        size_t book_len, const uint8_t *readings, size_t readings_len, int32_t limit, uint32_t sigma,
+                        uint8_t *accepted, uint16_t *used);
+
+/*
+ * Judge readings against two separate limits, by the s method or with a known spread: the lot is accepted where the
+ * upper limit accepts with the K under the upper column, and the lower limit with the K under the lower column. Both
+ * columns are looked up under the lot's severity and letter; they may be the same.
+ *   upper_column, lower_column
+ *                 the AQL of each limit, as column elsewhere
+ *   readings      exactly the n that both plans have: that of hm_variables_plan, or of the book's sigma plans
+ *   upper, lower  in gauge units from nominal, -1,000 to 1,000, the lower below the upper
+ *   sigma         of hm_sigma_both: as above
+ *   accepted      1 or 0
+ *   used          the n that both plans have
+ * Each refuses 1 2 3 4 5 6 7 9 12; 4 for either column; 6 where either has no entry, the two differ in n, or n is
+ * above the size. (In the tables of ISO 3951-1 n differs by AQL within a letter, so that most pairs of columns typed
+ * from them are 6; in its older edition n is the letter's.)
+ */
+uint32_t hm_variables_both(uint32_t size, uint32_t level, uint32_t upper_column, uint32_t lower_column,
+                           uint32_t severity, const uint8_t *book, size_t book_len, const uint8_t *readings,
+                           size_t readings_len, int32_t upper, int32_t lower, uint8_t *accepted, uint16_t *used);
+uint32_t hm_sigma_both(uint32_t size, uint32_t level, uint32_t upper_column, uint32_t lower_column, uint32_t severity,
+                       const uint8_t *book, size_t book_len, const uint8_t *readings, size_t readings_len,
+                       int32_t upper, int32_t lower, uint32_t sigma, uint8_t *accepted, uint16_t *used);
+
+/*
  * Judge a sample in the mode of fractions, at the severity and by the clean run of a record, which stays as it is.
  *   accepted  1 or 0
  *   used      items used: all of the sample
@@ -378,7 +421,7 @@ uint32_t hm_close_curtailed(uint8_t *record, size_t record_len, uint32_t resubmi
 /*
  * Move the record by one event, HM_ACCEPTED_ADD_3 to HM_CORRECTIVE: an order, or an attributes lot judged elsewhere,
  * its byte chosen by its points (THE HISTORY, above). Such a lot clears the clean run unless it is resubmitted. Never a
- * lot judged on a sequential or variables plan: those enter neither the record nor the history.
+ * lot judged on a sequential, variables or sigma plan: those enter neither the record nor the history.
  * Refuses 1 5 10.
  */
 uint32_t hm_next(uint8_t *record, size_t record_len, uint32_t event);
@@ -396,20 +439,23 @@ uint64_t hm_list(const uint8_t *history, size_t len, uint8_t *severities, size_t
 uint32_t hm_check_book(const uint8_t *book, size_t book_len);
 
 /*
- * Write the book of these entries: four lists of rows, each row right after the one before it. Within a list the keys
- * rise, as in a book. A section with no entries is a list of length 0, its pointer valid all the same.
+ * Write the book of these entries: five lists of rows, each row right after the one before it. Within a list the keys
+ * rise, as in a book. A section with no entries is a list of length 0, its pointer valid all the same; where the fifth
+ * list is empty, the book has no fifth section.
  *   out      gets the book; its bytes past the book stay. HM_BOOK_BYTES are enough for any book
  *   written  how many bytes the book has
  * Refuses 12 at the first bad entry: a number out of range, a rule broken, a key that does not rise after the row
  * before it, or a row cut short at the end of its list. Its place is the entry's position, counted from 0 through the
- * four lists. Then 11, for a book longer than out, or than HM_BOOK_BYTES.
+ * five lists. Then 11, for a book longer than out, or than HM_BOOK_BYTES.
+ *   The fifth list came later: every caller passes it, and is compiled anew. An object made with an older header still
+ * links, and must not be used: it passes no list where this function takes one.
  */
 uint32_t hm_write_book(const uint8_t *reduced, size_t reduced_len, const uint8_t *staged, size_t staged_len,
                        const uint8_t *sequential, size_t sequential_len, const uint8_t *variables, size_t variables_len,
-                       uint8_t *out, size_t out_len, uint32_t *written);
+                       const uint8_t *sigma, size_t sigma_len, uint8_t *out, size_t out_len, uint32_t *written);
 
 /*
- * How many entries a section of a book has, HM_REDUCED_SECTION to HM_VARIABLES_SECTION; one that is not there has 0.
+ * How many entries a section of a book has, HM_REDUCED_SECTION to HM_SIGMA_SECTION; one that is not there has 0.
  * Refuses 12.
  */
 uint32_t hm_count_entries(const uint8_t *book, size_t book_len, uint32_t section, uint32_t *count);
@@ -417,9 +463,9 @@ uint32_t hm_count_entries(const uint8_t *book, size_t book_len, uint32_t section
 /*
  * The entry of a section that is nth from its first, counted from 0, as a row. The book is checked whole at each call.
  *   row      gets the row, two bytes a number; its bytes past the row stay. HM_ENTRY_BYTES are enough for any
- *   numbers  how many numbers the row has, by its section: 4, 25, 8 or 5
- * Refuses 12; then 6 where there is no such entry; then 11 where row has fewer bytes than the section's rows, 8, 50, 16
- * or 10.
+ *   numbers  how many numbers the row has, by its section: 4, 25, 8, 5 or 5
+ * Refuses 12; then 6 where there is no such entry; then 11 where row has fewer bytes than the section's rows: 8, 50,
+ * 16, 10 or 10.
  */
 uint32_t hm_read_entry(const uint8_t *book, size_t book_len, uint32_t section, uint32_t nth, uint8_t *row,
                        size_t row_len, uint32_t *numbers);

@@ -3,15 +3,16 @@
 
 #include "draw.h"
 #include "reference.h"
+#include "sides.h"
 #include "sizes.h"
 
 #include <string.h>
 
 enum { MARK = 65535, MOST_ITEM_COLUMN = 15 };
 
-const unsigned key_numbers[SECTIONS] = {2, 3, 3, 3}, most_column[SECTIONS] = {25, 25, 15, 15};
+const unsigned key_numbers[SECTIONS] = {2, 3, 3, 3, 3}, most_column[SECTIONS] = {25, 25, 15, 15, 15};
 
-/* Where the parts of the book drawn last stand, so that damage can aim. */
+/* Where the parts of the book drawn last stand, so that damage can aim; a fifth section that it lacks, at its end. */
 static struct {
     size_t count_at[SECTIONS];
     unsigned entries;
@@ -32,6 +33,16 @@ void put_book(struct call *c, unsigned number) {
 
 void put_item(struct call *c, unsigned number) {
     put(c->sample, &c->sample_len, number);
+}
+
+/* The fifth section has a count only where it has an entry. */
+void set_entry(struct call *c, unsigned section, const unsigned *numbers, unsigned n) {
+    c->book_len = 0;
+    for (unsigned i = 0; i < COUNTED_SECTIONS || i == section; i++) {
+        put_book(c, i == section);
+        for (unsigned j = 0; i == section && j < n; j++)
+            put_book(c, numbers[j]);
+    }
 }
 
 static unsigned least_of(unsigned a, unsigned b) {
@@ -145,12 +156,15 @@ static void draw_sequential(struct call *c, struct plans *p) {
     put_book(c, p->at);
 }
 
-static void draw_variables(struct call *c, struct plans *p) {
-    p->n = most_of(draw_total(c, 50, 50), 2);
-    p->n = least_of(p->n, 50);
-    p->k = one_in(2) ? 250 * between(1, 16) : between(1, 4000);
-    put_book(c, p->n);
-    put_book(c, p->k);
+/* The plan of the other side, where there is one, mostly has the same n, or else one that is near it. */
+static void draw_gauge(struct call *c, struct gauge *gauge, const struct gauge *other) {
+    unsigned n = most_of(draw_total(c, 50, 50), 2);
+    if (other->n > 0 && !one_in(20))
+        n = one_in(8) ? most_of(other->n + 2 * below(2), 3) - 1 : other->n;
+    gauge->n = least_of(n, 50);
+    gauge->k = one_in(2) ? 250 * between(1, 16) : between(1, 4000);
+    put_book(c, gauge->n);
+    put_book(c, gauge->k);
 }
 
 /* ---- sections */
@@ -206,41 +220,83 @@ static unsigned draw_keys(key *keys, const key lots, unsigned section, bool with
     return n;
 }
 
+/* The lot's own keys: under its column, and under its lower one, where the function has two. */
+struct keys {
+    key lots, lower;
+};
+
+static bool same_key(unsigned section, const key a, const key b) {
+    unsigned skip = 3 - key_numbers[section];
+    return memcmp(a + skip, b + skip, sizeof(key) - skip * sizeof *a) == 0;
+}
+
+/* An entry that the function judges by is kept; a single one may be that of both sides. */
+static void draw_gauged(struct call *c, unsigned section, const key k, const struct keys *own, struct plans *p) {
+    static const struct gauge none = {0, 0};
+    struct gauge any;
+    bool judged = section == section_of(c->function), upper = judged && same_key(section, k, own->lots);
+    bool lower = judged && has_two_limits(c->function) && same_key(section, k, own->lower);
+    if (!upper && !lower) {
+        draw_gauge(c, &any, &none);
+        return;
+    }
+    draw_gauge(c, upper ? &p->upper : &p->lower, upper ? &p->lower : &p->upper);
+    if (upper && lower)
+        p->lower = p->upper;
+}
+
 static void draw_body(struct call *c, unsigned section, struct plans *p) {
-    static void (*const draws[SECTIONS])(struct call *, struct plans *) = {draw_reduced, draw_staged, draw_sequential,
-                                                                           draw_variables};
+    static void (*const draws[])(struct call *, struct plans *) = {draw_reduced, draw_staged, draw_sequential};
     draws[section](c, p);
 }
 
-static void draw_entry(struct call *c, unsigned section, const key k, const key lots, struct plans *plans) {
+static void draw_entry(struct call *c, unsigned section, const key k, const struct keys *own, struct plans *plans) {
     struct plans other;
-    unsigned skip = 3 - key_numbers[section];
-    bool is_lots = memcmp(k + skip, lots + skip, sizeof(key) - skip * sizeof *k) == 0;
+    bool is_lots = same_key(section, k, own->lots);
     layout.entry[layout.entries].section = section;
     layout.entry[layout.entries].key = c->book_len;
-    for (unsigned i = skip; i < 3; i++)
+    for (unsigned i = 3 - key_numbers[section]; i < 3; i++)
         put_book(c, k[i]);
     layout.entry[layout.entries++].body = c->book_len;
-    draw_body(c, section, is_lots ? plans : &other);
+    if (section >= VARIABLES_SECTION)
+        draw_gauged(c, section, k, own, plans);
+    else
+        draw_body(c, section, is_lots ? plans : &other);
     if (is_lots)
         plans->there[section] = true;
+}
+
+static unsigned draw_own_keys(const struct call *c, key *keys, const struct keys *own, unsigned section, bool sure) {
+    bool fits = own->lots[2] <= most_column[section], two = has_two_limits(c->function);
+    unsigned n = draw_keys(keys, own->lots, section, fits && (sure || !one_in(12)));
+    if (two && section == section_of(c->function) && own->lower[2] <= most_column[section] && !one_in(12))
+        n = insert_key(keys, n, own->lower);
+    return n;
+}
+
+/* A book of four sections is as sound as one of five. */
+static bool draws_section(const struct call *c, unsigned section) {
+    return section < COUNTED_SECTIONS || (is_sigma(c->function) ? !one_in(12) : one_in(4));
 }
 
 void draw_book(struct call *c, bool sure, struct plans *plans) {
     uint8_t letter = (uint8_t)below(16);
     ref_letter(c->size, c->level, &letter);
-    key keys[64], lots = {(uint16_t)(c->severity <= 2 ? c->severity : below(3)), letter,
-                          (uint16_t)(c->column <= 25 ? c->column : below(26))};
+    key keys[64];
+    struct keys own = {{(uint16_t)(c->severity <= 2 ? c->severity : below(3)), letter,
+                        (uint16_t)(c->column <= 25 ? c->column : below(26))},
+                       {0, letter, (uint16_t)(c->lower_column <= 25 ? c->lower_column : below(26))}};
+    own.lower[0] = own.lots[0];
     memset(plans, 0, sizeof *plans);
     c->book_len = 0;
     layout.entries = 0;
     for (unsigned section = 0; section < SECTIONS; section++) {
-        bool fits = lots[2] <= most_column[section];
-        unsigned n = draw_keys(keys, lots, section, fits && (sure || !one_in(12)));
+        unsigned n = draws_section(c, section) ? draw_own_keys(c, keys, &own, section, sure) : 0;
         layout.count_at[section] = c->book_len;
-        put_book(c, n);
+        if (section < COUNTED_SECTIONS || n > 0)
+            put_book(c, n);
         for (unsigned i = 0; i < n; i++)
-            draw_entry(c, section, keys[i], lots, plans);
+            draw_entry(c, section, keys[i], &own, plans);
     }
 }
 
@@ -341,15 +397,40 @@ static void damage_count(struct call *c) {
         set_number(c, at, one_in(8) ? below(65536) : (number_in(c, at) + (one_in(2) ? 1 : 65535)) & 65535);
 }
 
+/* Bytes after the last section: 0, or any. */
+static void put_bytes(struct call *c, unsigned bytes) {
+    bool zeros = one_in(2);
+    for (; bytes > 0; bytes--)
+        c->book[c->book_len++] = (uint8_t)(zeros ? 0 : below(256));
+}
+
+/* After the fourth section a lone byte, or a count of 0 with nothing after it or anything; or bytes after the fifth. */
+static void damage_fifth(struct call *c) {
+    size_t at = layout.count_at[SIGMA_SECTION];
+    unsigned kind = below(4);
+    if (at > c->book_len)
+        return;
+    if (kind < 2 || (kind == 2 && at + 2 > c->book_len))
+        c->book_len = at;
+    if (kind == 0)
+        put_bytes(c, 1);
+    else if (kind < 3 && c->book_len == at)
+        put_book(c, 0);
+    else if (kind < 3)
+        set_number(c, at, 0);
+    if (kind > 1)
+        put_bytes(c, below(13));
+}
+
 static void damage_byte(struct call *c) {
     if (c->book_len > 0)
         c->book[below((uint32_t)c->book_len)] = (uint8_t)below(256);
 }
 
 void damage_book(struct call *c) {
-    static void (*const damages[])(struct call *) = {damage_number, damage_number,     damage_keys,   damage_key,
-                                                     damage_stage,  damage_stage,      damage_length, damage_count,
-                                                     damage_byte,   damage_curtailment};
+    static void (*const damages[])(struct call *) = {damage_number, damage_number,      damage_keys,   damage_key,
+                                                     damage_stage,  damage_stage,       damage_length, damage_count,
+                                                     damage_byte,   damage_curtailment, damage_fifth};
     unsigned times = one_in(6) ? between(2, 3) : 1;
     for (unsigned i = 0; i < times; i++)
         damages[below(sizeof damages / sizeof *damages)](c);

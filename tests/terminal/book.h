@@ -4,15 +4,23 @@
 
 #include "call.h"
 
-enum { MOST_ENTRIES = 256, STAGES = 7 };
+enum { MOST_ENTRIES = 320, STAGES = 7 };
 
-/* The bodies that a drawn book holds under the lot's own key, and which of the four there are. */
+/* A plan for readings; n is 0 where there is none. */
+struct gauge {
+    unsigned n, k;
+};
+
+/*
+ * The bodies that a drawn book holds under the lot's own key, and which of them there are. For readings those of the
+ * section that the function judges by: under its column, or its upper one, and under its lower one where it has two.
+ */
 struct plans {
     bool there[SECTIONS];
     unsigned reduced_n, reduced_ac;
     unsigned stages, size[STAGES], ac[STAGES], re[STAGES];
     unsigned ha, hr, g, nt, at;
-    unsigned n, k;
+    struct gauge upper, lower;
 };
 
 /* How many numbers the key of a section has, and the last column in it. */
@@ -37,5 +45,8 @@ unsigned edge_number(unsigned present);
 /* Appends a number to the call's book or sample. */
 void put_book(struct call *call, unsigned number);
 void put_item(struct call *call, unsigned number);
+
+/* Makes the call's book one that has a single entry, with these numbers, in the section counted from 0. */
+void set_entry(struct call *call, unsigned section, const unsigned *numbers, unsigned n);
 
 #endif

@@ -6,6 +6,7 @@
 #include "draw.h"
 #include "packed.h"
 #include "reference.h"
+#include "sides.h"
 #include "sizes.h"
 
 #include <stdio.h>
@@ -19,6 +20,8 @@ typedef uint32_t judge_function(uint32_t, uint32_t, uint32_t, uint32_t, const ui
                                 size_t, uint8_t *, uint16_t *);
 typedef uint32_t variables_function(uint32_t, uint32_t, uint32_t, uint32_t, const uint8_t *, size_t, const uint8_t *,
                                     size_t, int32_t, uint8_t *, uint16_t *);
+typedef uint32_t sigma_function(uint32_t, uint32_t, uint32_t, uint32_t, const uint8_t *, size_t, const uint8_t *,
+                                size_t, int32_t, uint32_t, uint8_t *, uint16_t *);
 typedef uint32_t close_function(uint8_t *, size_t, uint32_t, uint32_t, uint32_t, uint32_t, const uint8_t *, size_t,
                                 const uint8_t *, size_t, uint8_t *, uint16_t *, uint8_t *);
 
@@ -47,13 +50,18 @@ struct library {
                                uint16_t *);
     judge_function *single, *staged, *sequential, *curtailed;
     variables_function *upper, *lower;
+    uint32_t (*both)(uint32_t, uint32_t, uint32_t, uint32_t, uint32_t, const uint8_t *, size_t, const uint8_t *, size_t,
+                     int32_t, int32_t, uint8_t *, uint16_t *);
+    sigma_function *sigma_upper, *sigma_lower;
+    uint32_t (*sigma_both)(uint32_t, uint32_t, uint32_t, uint32_t, uint32_t, const uint8_t *, size_t, const uint8_t *,
+                           size_t, int32_t, int32_t, uint32_t, uint8_t *, uint16_t *);
     fractional_function *fractional;
     close_function *close_single, *close_staged, *close_fractional, *close_curtailed;
     uint32_t (*next)(uint8_t *, size_t, uint32_t);
     uint64_t (*list)(const uint8_t *, size_t, uint8_t *, size_t);
     uint32_t (*check_book)(const uint8_t *, size_t);
     uint32_t (*write_book)(const uint8_t *, size_t, const uint8_t *, size_t, const uint8_t *, size_t, const uint8_t *,
-                           size_t, uint8_t *, size_t, uint32_t *);
+                           size_t, const uint8_t *, size_t, uint8_t *, size_t, uint32_t *);
     uint32_t (*count_entries)(const uint8_t *, size_t, uint32_t, uint32_t *);
     uint32_t (*read_entry)(const uint8_t *, size_t, uint32_t, uint32_t, uint8_t *, size_t, uint32_t *);
     uint32_t (*screen)(const uint8_t *, size_t, double *, double *, uint8_t *);
@@ -64,8 +72,9 @@ struct library {
     {                                                                                                                  \
         of##_letter, of##_plan, of##_fractional_plan, of##_staged_plan, of##_sequential_plan, of##_variables_plan,     \
             of##_single, of##_staged, of##_sequential, of##_curtailed, of##_variables_upper, of##_variables_lower,     \
-            of##_fractional, of##_close_single, of##_close_staged, of##_close_fractional, of##_close_curtailed,        \
-            of##_next, of##_list, of##_check_book, of##_write_book, of##_count_entries, of##_read_entry, of##_screen   \
+            of##_variables_both, of##_sigma_upper, of##_sigma_lower, of##_sigma_both, of##_fractional,                 \
+            of##_close_single, of##_close_staged, of##_close_fractional, of##_close_curtailed, of##_next, of##_list,   \
+            of##_check_book, of##_write_book, of##_count_entries, of##_read_entry, of##_screen                         \
     }
 
 static const struct library proved = LIBRARY(hm), reference = LIBRARY(ref);
@@ -73,6 +82,7 @@ static const struct library proved = LIBRARY(hm), reference = LIBRARY(ref);
 #define BIT(number) (1u << (number))
 #define LOT_NUMBERS (BIT(1) | BIT(2) | BIT(3) | BIT(4) | BIT(5) | BIT(6) | BIT(12))
 #define ITEM_NUMBERS (LOT_NUMBERS | BIT(7) | BIT(8))
+#define READING_NUMBERS (LOT_NUMBERS | BIT(7) | BIT(9))
 #define SINGLE_BYTES (BIT(0) | BIT(1) | BIT(2) | BIT(3) | BIT(4))
 
 /* The numbers that each function can give beside 0, whether it gives verdicts, and the history bytes that it tells. */
@@ -92,8 +102,12 @@ static const struct {
     [STAGED] = {"hm_staged", ITEM_NUMBERS, true, 0},
     [SEQUENTIAL] = {"hm_sequential", ITEM_NUMBERS, true, 0},
     [CURTAILED] = {"hm_curtailed", ITEM_NUMBERS, true, 0},
-    [UPPER] = {"hm_variables_upper", LOT_NUMBERS | BIT(7) | BIT(9), true, 0},
-    [LOWER] = {"hm_variables_lower", LOT_NUMBERS | BIT(7) | BIT(9), true, 0},
+    [UPPER] = {"hm_variables_upper", READING_NUMBERS, true, 0},
+    [LOWER] = {"hm_variables_lower", READING_NUMBERS, true, 0},
+    [BOTH] = {"hm_variables_both", READING_NUMBERS, true, 0},
+    [SIGMA_UPPER] = {"hm_sigma_upper", READING_NUMBERS, true, 0},
+    [SIGMA_LOWER] = {"hm_sigma_lower", READING_NUMBERS, true, 0},
+    [SIGMA_BOTH] = {"hm_sigma_both", READING_NUMBERS, true, 0},
     [FRACTIONAL] = {"hm_fractional", ITEM_NUMBERS, true, 0},
     [CLOSE_SINGLE] = {"hm_close_single", ITEM_NUMBERS, true, SINGLE_BYTES},
     [CLOSE_STAGED] = {"hm_close_staged", ITEM_NUMBERS, true, BIT(0) | BIT(2) | BIT(3) | BIT(4)},
@@ -188,6 +202,32 @@ static uint32_t run_variables(variables_function *judge, const struct call *c, c
                  &a->accepted, &a->used);
 }
 
+static uint32_t run_sigma(sigma_function *judge, const struct call *c, const uint8_t *book, const uint8_t *readings,
+                          struct answer *a) {
+    return judge(c->size, c->level, c->column, c->severity, book, c->book_len, readings, c->sample_len, c->limit,
+                 c->sigma, &a->accepted, &a->used);
+}
+
+static uint32_t run_readings(const struct library *of, const struct call *c, const uint8_t *book,
+                             const uint8_t *readings, struct answer *a) {
+    switch (c->function) {
+    case UPPER:
+        return run_variables(of->upper, c, book, readings, a);
+    case LOWER:
+        return run_variables(of->lower, c, book, readings, a);
+    case SIGMA_UPPER:
+        return run_sigma(of->sigma_upper, c, book, readings, a);
+    case SIGMA_LOWER:
+        return run_sigma(of->sigma_lower, c, book, readings, a);
+    case BOTH:
+        return of->both(c->size, c->level, c->column, c->lower_column, c->severity, book, c->book_len, readings,
+                        c->sample_len, c->limit, c->lower_limit, &a->accepted, &a->used);
+    default:
+        return of->sigma_both(c->size, c->level, c->column, c->lower_column, c->severity, book, c->book_len, readings,
+                              c->sample_len, c->limit, c->lower_limit, c->sigma, &a->accepted, &a->used);
+    }
+}
+
 static uint32_t run_fractional(fractional_function *judge, const struct call *c, const uint8_t *book,
                                const uint8_t *sample, struct answer *a) {
     return judge(a->record, c->record_len, c->size, c->level, c->column, book, c->book_len, sample, c->sample_len,
@@ -246,7 +286,8 @@ static uint32_t run_book(const struct library *of, const struct call *c, const u
     switch (c->function) {
     case WRITE_BOOK:
         return of->write_book(list_lent(0), c->lists[0].len, list_lent(1), c->lists[1].len, list_lent(2),
-                              c->lists[2].len, list_lent(3), c->lists[3].len, out, c->out_len, &a->written);
+                              c->lists[2].len, list_lent(3), c->lists[3].len, list_lent(4), c->lists[4].len, out,
+                              c->out_len, &a->written);
     case COUNT_ENTRIES:
         return of->count_entries(book, c->book_len, c->section, &a->count);
     case READ_ENTRY:
@@ -258,6 +299,8 @@ static uint32_t run_book(const struct library *of, const struct call *c, const u
 
 static uint64_t run(const struct library *of, const struct call *c, const uint8_t *book, const uint8_t *sample,
                     uint8_t *out, struct answer *a) {
+    if (judges_readings(c->function))
+        return run_readings(of, c, book, sample, a);
     switch (c->function) {
     case SINGLE:
         return run_judge(of->single, c, book, sample, a);
@@ -267,10 +310,6 @@ static uint64_t run(const struct library *of, const struct call *c, const uint8_
         return run_judge(of->sequential, c, book, sample, a);
     case CURTAILED:
         return run_judge(of->curtailed, c, book, sample, a);
-    case UPPER:
-        return run_variables(of->upper, c, book, sample, a);
-    case LOWER:
-        return run_variables(of->lower, c, book, sample, a);
     case FRACTIONAL:
         return run_fractional(of->fractional, c, book, sample, a);
     case CLOSE_SINGLE:
@@ -414,6 +453,8 @@ uint64_t run_both(const struct call *c, struct answer *a) {
         hold_to_full_count(c, status, a);
     if (status == 0 && tells_size(c->function))
         hold_to_sizes(c, a);
+    if (is_of_t07(c->function))
+        hold_to_sides(c, status, a);
     count(c, status, a);
     return status;
 }
@@ -427,6 +468,8 @@ void report(const char *what, const struct call *c) {
     printf("  size %u level %u column %u severity %u resubmitted %u event %u limit %d section %u nth %u room %zu\n",
            (unsigned)c->size, (unsigned)c->level, (unsigned)c->column, (unsigned)c->severity, (unsigned)c->resubmitted,
            (unsigned)c->event, (int)c->limit, (unsigned)c->section, (unsigned)c->nth, c->out_len);
+    printf("  lower column %u lower limit %d sigma %u\n", (unsigned)c->lower_column, (int)c->lower_limit,
+           (unsigned)c->sigma);
     print_bytes("record", c->record, c->record_len);
     print_bytes("book", c->book, c->book_len);
     print_bytes("sample, readings or history", c->sample, c->sample_len);
@@ -483,6 +526,7 @@ bool summary(void) {
     ok = summary_of_books() && ok;
     ok = summary_of_curtailed() && ok;
     ok = summary_of_sizes() && ok;
+    ok = summary_of_sides() && ok;
     unsigned long calls = 0;
     for (int f = 0; f < FUNCTIONS; f++) {
         ok = summary_of((enum function)f) && ok;

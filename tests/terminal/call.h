@@ -19,6 +19,10 @@ enum function {
     CURTAILED,
     UPPER,
     LOWER,
+    BOTH,
+    SIGMA_UPPER,
+    SIGMA_LOWER,
+    SIGMA_BOTH,
     FRACTIONAL,
     CLOSE_SINGLE,
     CLOSE_STAGED,
@@ -39,8 +43,11 @@ enum { BOOK_ROOM = 40000, SAMPLE_ROOM = 40000, LIST_ROOM = 64000, RECORD_ROOM = 
 /* The record's clean run, the letter and the column of its plan; and its bytes before them, that a history tells. */
 enum { CLEAN = 7, CLEAN_LETTER, CLEAN_COLUMN, TOLD = 7 };
 
-/* The sections of a book, and the entries of one as a list of rows. */
-enum { SECTIONS = 4 };
+/*
+ * The sections of a book, of which the first four are always there, if only with a count of 0, and the fifth only with
+ * entries; and the entries of one as a list of rows.
+ */
+enum { SECTIONS = 5, COUNTED_SECTIONS = 4, VARIABLES_SECTION = 3, SIGMA_SECTION = 4 };
 
 struct list {
     size_t len;
@@ -49,13 +56,13 @@ struct list {
 
 /*
  * Everything that a function could be passed; each takes what it has a parameter for. Readings and histories are lent
- * as the sample. The bytes lent for a row of stages or of an entry, for severities, or for a book, are out_len, at most
- * SAMPLE_ROOM.
+ * as the sample. Of two limits the column and the limit are those of the upper one. The bytes lent for a row of stages
+ * or of an entry, for severities, or for a book, are out_len, at most SAMPLE_ROOM.
  */
 struct call {
     enum function function;
-    uint32_t size, level, column, severity, resubmitted, event, section, nth;
-    int32_t limit;
+    uint32_t size, level, column, lower_column, severity, sigma, resubmitted, event, section, nth;
+    int32_t limit, lower_limit;
     unsigned items_with_points; /* after how many the book's staged plan still adds 3, for a supply; passed to none */
     size_t book_len, sample_len, record_len, out_len;
     uint8_t book[BOOK_ROOM], sample[SAMPLE_ROOM], record[RECORD_ROOM];

@@ -4,7 +4,7 @@
 
 #include <stdbool.h>
 
-/* What the standards and document 01 publish, and the worked cases of T-02. */
+/* What the standards, T-07's source among them, and document 01 publish, and the worked cases of T-02. */
 void published_cases(void);
 
 /* Every letter and plan of the tables, every row of stages, every record by every event, and the longest books. */
@@ -19,7 +19,7 @@ void every_fraction(void);
 /* T-02: every stage of every number of stages, accepted there and not, by every record but stopped and clean runs. */
 void every_stage(void);
 
-/* T-03: rows and books written out, the positions of bad entries, and books at the longest length. */
+/* T-03, and its five lists since T-07: rows and books written out, positions of bad entries, the longest books. */
 void writing_cases(void);
 
 /* T-03: every number of a row at its edges, every order of keys, every cut, every room, every mixture of refusals. */
@@ -39,6 +39,15 @@ void whole_lot_cases(void);
 
 /* T-05: every size of the tables and of a book beside lots of as many items, fewer and more, and past 16 bits. */
 void every_size(void);
+
+/* T-07: worked verdicts beside one limit and two, by both methods, refusals in their order, and old books. */
+void limit_cases(void);
+
+/* T-07: worked and broken books of five sections, every beginning and tail of one, and each function that takes one. */
+void fifth_section_cases(void);
+
+/* T-07: every margin beside what is needed, every two columns, limits and n, every sigma, reading, lot and mixture. */
+void every_side(void);
 
 /* Every mixture of what a lot can be refused for, in each function that takes one. */
 void refusal_cases(void);

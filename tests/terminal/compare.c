@@ -9,7 +9,7 @@
 #include <stdio.h>
 #include <stdlib.h>
 
-enum { CASES = 1370000, SUPPLIES = 12, SUPPLY_EVENTS = 3000 };
+enum { CASES = 1420000, SUPPLIES = 12, SUPPLY_EVENTS = 3000 };
 
 int main(int argc, char **argv) {
     static struct call call;
@@ -35,6 +35,9 @@ int main(int argc, char **argv) {
     every_curtailed();
     whole_lot_cases();
     every_size();
+    limit_cases();
+    fifth_section_cases();
+    every_side();
     refusal_cases();
     history_cases();
     ok = summary() && ok;

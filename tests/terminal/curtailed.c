@@ -300,7 +300,7 @@ static void put_entry(bool there) {
     put_book(&call, there);
     for (unsigned i = 0; there && i < 4; i++)
         put_book(&call, entry[i]);
-    for (unsigned i = 1; i < SECTIONS; i++)
+    for (unsigned i = 1; i < COUNTED_SECTIONS; i++)
         put_book(&call, 0);
 }
 

@@ -6,6 +6,7 @@
 #include "packed.h"
 #include "reference.h"
 #include "rows.h"
+#include "sides.h"
 #include "sizes.h"
 
 #include <string.h>
@@ -70,11 +71,12 @@ static void aim_at_size(struct call *c) {
 }
 
 static void draw_lot(struct call *c) {
-    bool low_columns = c->function == SEQUENTIAL || c->function == UPPER || c->function == LOWER ||
-                       c->function == SEQUENTIAL_PLAN || c->function == VARIABLES_PLAN;
+    bool low_columns = c->function == SEQUENTIAL || judges_readings(c->function) || c->function == SEQUENTIAL_PLAN ||
+                       c->function == VARIABLES_PLAN;
     c->size = only_told(c) && one_in(2) ? between(2, 20000) : draw_size();
     c->level = one_in(60) ? any_number() : below(7);
     c->column = one_in(60) ? any_number() : low_columns && !one_in(20) ? below(16) : below(26);
+    c->lower_column = one_in(3) ? c->column : one_in(40) ? any_number() : one_in(20) ? below(26) : below(16);
     c->severity = one_in(60) ? any_number() : one_in(40) ? STOPPED : below(3);
     if (in_mode(c->function) ? !one_in(6) : takes_record(c->function) && one_in(4))
         aim_at_fraction(c);
@@ -343,14 +345,28 @@ static int any_reading(int around, unsigned spread) {
     return reading < -1000 ? -1000 : reading > 1000 ? 1000 : reading;
 }
 
-/* Readings a - d, a and a + d in such numbers that K is met exactly at the limit; then the limit may move by one. */
-static bool draw_exact_readings(struct call *c, unsigned n, unsigned k) {
-    int j = (int)between(1, 20), d = 4 * j, t = (int)(k / 250) * j, a = (int)below(401) - 200;
-    if (n % 2 == 0 || k % 250 != 0)
+static int divide_down(int number, int by) {
+    return number >= 0 ? number / by : -((by - 1 - number) / by);
+}
+
+/* 0, or at times one less or more. */
+static int beside(void) {
+    return one_in(3) ? (int)below(3) - 1 : 0;
+}
+
+/*
+ * Readings a - d, a and a + d in such numbers that K is met exactly at the limit; then the limit may move by one. A
+ * second K may be met exactly as well.
+ */
+static bool draw_exact_readings(struct call *c, unsigned n, const struct plans *p) {
+    int j = (int)between(1, 20), d = 4 * j, a = (int)below(401) - 200;
+    int t = (int)(p->upper.k / 250) * j, lower_t = (int)(p->lower.k / 250) * j;
+    if (n % 2 == 0 || p->upper.k % 250 != 0)
         return false;
     for (unsigned i = 0; i < n; i++)
         put_reading(c, i == n / 2 ? a : i < n / 2 ? a - d : a + d);
-    c->limit = (c->function == UPPER ? a + t : a - t) + (one_in(3) ? (int)below(3) - 1 : 0);
+    c->limit = (c->function == LOWER ? a - t : a + t) + beside();
+    c->lower_limit = a - lower_t + beside();
     return true;
 }
 
@@ -360,16 +376,109 @@ static void draw_readings(struct call *c, unsigned n) {
     int around = any_reading(0, 900), away = any_reading(0, spread * 4 + 2);
     for (unsigned i = 0; i < n; i++)
         put_reading(c, any_reading(around, spread));
-    c->limit = any_reading(around, 0) + (one_in(4) ? 0 : c->function == UPPER ? away : -away);
+    c->limit = any_reading(around, 0) + (one_in(4) ? 0 : c->function == LOWER ? -away : away);
     if (one_in(12))
         c->limit = one_in(2) ? 1000 : -1000;
 }
 
+/* The whole units from the mean to the nearest limit whose margin is enough for K; the spread is n W - S S. */
+static int units_away(int64_t n, int64_t spread, int64_t k) {
+    int64_t low = 0, high = 4000;
+    while (low < high) {
+        int64_t away = (low + high) / 2;
+        if (1000000 * away * away * (n - 1) * n >= k * k * spread)
+            high = away;
+        else
+            low = away + 1;
+    }
+    return (int)low;
+}
+
+/* Both limits within a unit of where they begin to accept; at times one of them is elsewhere. */
+static void draw_limits(struct call *c, const struct plans *p, int n) {
+    int64_t sum = 0, squares = 0;
+    for (int i = 0; i < n; i++) {
+        int64_t reading = (int16_t)(c->sample[2 * i] | (unsigned)c->sample[2 * i + 1] << 8);
+        sum += reading;
+        squares += reading * reading;
+    }
+    int mean = n > 0 ? divide_down((int)sum, n) : 0;
+    c->limit = any_reading(mean + units_away(n, n * squares - sum * sum, p->upper.k), 1);
+    c->lower_limit = any_reading(mean - units_away(n, n * squares - sum * sum, p->lower.k), 1);
+    if (one_in(8))
+        c->limit = one_in(2) ? 1000 : any_reading(mean, 200);
+    if (one_in(8))
+        c->lower_limit = one_in(2) ? -1000 : any_reading(mean, 200);
+    if (c->lower_limit >= c->limit && !one_in(6))
+        c->lower_limit = any_reading(c->limit - 300, 299);
+}
+
+/* ---- readings beside limits that are a known spread away */
+
+/* How many whole units a margin needs at least. */
+static int units_for(const struct call *c, unsigned n, unsigned k) {
+    return (int)((k * c->sigma * n + 999999) / 1000000);
+}
+
+/* Readings that come to a sum, as near as their range lets them; each two may move apart. */
+static void put_readings(struct call *c, unsigned n, int sum) {
+    static const unsigned spreads[] = {0, 1, 20, 700};
+    unsigned spread = PICK(spreads);
+    int low = divide_down(sum, (int)n), over = sum - low * (int)n;
+    for (unsigned i = 0; i < n; i += 2) {
+        int first = low + ((int)i < over), second = low + ((int)i + 1 < over), apart = (int)below(spread + 1);
+        if (i + 1 == n || first + apart > 1000 || second - apart < -1000)
+            apart = 0;
+        put_reading(c, any_reading(first + apart, 0));
+        if (i + 1 < n)
+            put_reading(c, any_reading(second - apart, 0));
+    }
+}
+
+/* The margin is mostly what is needed, or a unit less or more; the lower limit is the nearest that has its own. */
+static void draw_known(struct call *c, const struct plans *p, unsigned n) {
+    static const uint32_t sigmas[] = {1, 2, 125, 200, 250, 400, 500, 800, 999, 1000, 1000, 1000};
+    c->sigma = one_in(3) ? between(1, 1000) : PICK(sigmas);
+    c->limit = one_in(20) ? 1000 : one_in(20) ? -1000 : any_reading(0, 990);
+    c->lower_limit = c->limit - 1;
+    if (n == 0)
+        return;
+    int whole = (int)n * c->limit, margin = units_for(c, n, p->upper.k) + (one_in(2) ? 0 : (int)below(3) - 1);
+    if (one_in(5))
+        margin = any_reading(0, one_in(2) ? 4 * n : 1000);
+    int sum = c->function == SIGMA_LOWER ? whole + margin : whole - margin;
+    put_readings(c, n, sum);
+    c->lower_limit = divide_down(sum - units_for(c, n, p->lower.k), (int)n) + beside();
+    if (c->lower_limit >= c->limit && !one_in(6))
+        c->lower_limit = any_reading(c->limit - 3, 2);
+}
+
+static int32_t any_limit(void) {
+    static const int32_t limits[] = {1001, -1001, INT32_MAX, INT32_MIN, 65536, -65536, 66036, 1000, -1000};
+    return one_in(4) ? (int32_t)draw_number() : PICK(limits);
+}
+
+/* A limit that is out of range, or at an end of it; limits that are equal or crossed; a spread that is none. */
+static void damage_limits(struct call *c) {
+    static const uint32_t sigmas[] = {0, 0, 1, 1000, 1001, 1001, 1255, 65536, 65537, 66036, 0x80000001, 0xffffffff};
+    unsigned kind = below(is_sigma(c->function) ? 5 : has_two_limits(c->function) ? 3 : 1);
+    int32_t limit = c->limit;
+    if (kind > 2)
+        c->sigma = one_in(8) ? draw_number() : PICK(sigmas);
+    else if (kind == 0 || !has_two_limits(c->function))
+        c->limit = any_limit();
+    else if (kind == 1)
+        c->lower_limit = any_limit();
+    else {
+        c->limit = one_in(2) ? limit : c->lower_limit;
+        c->lower_limit = limit;
+    }
+}
+
 static void damage_readings(struct call *c) {
     static const int readings[] = {1001, -1001, 32767, -32768, 1000, -1000, 1255, -1256};
-    static const int32_t limits[] = {1001, -1001, INT32_MAX, INT32_MIN, 65536, -65536, 66036, 1000, -1000};
-    if (one_in(3))
-        c->limit = one_in(4) ? (int32_t)draw_number() : PICK(limits);
+    if (one_in(3) || (is_of_t07(c->function) && one_in(4)))
+        damage_limits(c);
     else if (one_in(2) && c->sample_len >= 2)
         set_item(c, below((uint32_t)c->sample_len / 2), (unsigned)PICK(readings) & 65535);
     else
@@ -381,14 +490,21 @@ static unsigned readings_for(const struct call *c, const struct plans *p) {
     static const unsigned edges[] = {0, 1, 2, 49, 50, 51, 52, 100};
     if (c->function == SCREEN)
         return one_in(6) ? PICK(edges) : between(1, 50);
-    return p->there[3] ? p->n : below(20);
+    if (p->upper.n > 0 && p->lower.n > 0)
+        return one_in(2) ? p->upper.n : p->lower.n;
+    return p->upper.n + p->lower.n > 0 ? p->upper.n + p->lower.n : below(20);
 }
 
 static void draw_gauged(struct call *c, const struct plans *p) {
     unsigned n = readings_for(c, p);
     c->sample_len = 0;
-    if (c->function == SCREEN || !one_in(2) || !draw_exact_readings(c, n, p->k))
+    if (is_sigma(c->function))
+        draw_known(c, p, n);
+    else if (c->function == SCREEN || !one_in(2) || !draw_exact_readings(c, n, p)) {
         draw_readings(c, n);
+        if (c->function == BOTH)
+            draw_limits(c, p, (int)n);
+    }
     if (one_in(5))
         damage_readings(c);
 }
@@ -469,19 +585,20 @@ static void draw_room(struct call *c) {
 
 static enum function draw_function(void) {
     static const uint8_t often[FUNCTIONS] = {
-        [LETTER] = 1,         [PLAN] = 7,       [FRACTIONAL_PLAN] = 4, [STAGED_PLAN] = 5,    [SEQUENTIAL_PLAN] = 3,
-        [VARIABLES_PLAN] = 3, [SINGLE] = 8,     [STAGED] = 11,         [SEQUENTIAL] = 10,    [UPPER] = 6,
-        [LOWER] = 6,          [FRACTIONAL] = 5, [CLOSE_SINGLE] = 8,    [CLOSE_STAGED] = 7,   [CLOSE_FRACTIONAL] = 6,
-        [NEXT] = 4,           [LIST] = 1,       [CHECK_BOOK] = 4,      [WRITE_BOOK] = 6,     [COUNT_ENTRIES] = 1,
-        [READ_ENTRY] = 3,     [SCREEN] = 1,     [CURTAILED] = 3,       [CLOSE_CURTAILED] = 4};
-    unsigned at = below(117), f = 0;
+        [LETTER] = 1,         [PLAN] = 7,        [FRACTIONAL_PLAN] = 4, [STAGED_PLAN] = 5,     [SEQUENTIAL_PLAN] = 3,
+        [VARIABLES_PLAN] = 3, [SINGLE] = 8,      [STAGED] = 11,         [SEQUENTIAL] = 10,     [UPPER] = 6,
+        [LOWER] = 6,          [FRACTIONAL] = 5,  [CLOSE_SINGLE] = 8,    [CLOSE_STAGED] = 7,    [CLOSE_FRACTIONAL] = 6,
+        [NEXT] = 4,           [LIST] = 1,        [CHECK_BOOK] = 4,      [WRITE_BOOK] = 6,      [COUNT_ENTRIES] = 1,
+        [READ_ENTRY] = 3,     [SCREEN] = 1,      [CURTAILED] = 3,       [CLOSE_CURTAILED] = 4, [BOTH] = 3,
+        [SIGMA_UPPER] = 2,    [SIGMA_LOWER] = 2, [SIGMA_BOTH] = 3};
+    unsigned at = below(127), f = 0;
     for (; at >= often[f]; f++)
         at -= often[f];
     return (enum function)f;
 }
 
 static void draw_sample(struct call *c, const struct plans *p) {
-    if (c->function == UPPER || c->function == LOWER || c->function == SCREEN) {
+    if (judges_readings(c->function) || c->function == SCREEN) {
         draw_gauged(c, p);
         return;
     }

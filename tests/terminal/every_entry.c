@@ -1,4 +1,7 @@
-/* T-03, what is small enough to try whole: the numbers of a row, keys, cuts, stages, and mixtures of refusals. */
+/*
+ * T-03, and T-07's fifth list in it, what is small enough to try whole: the numbers of a row, keys, cuts, stages, and
+ * mixtures of refusals.
+ */
 #include "../../include/hipomoake.h"
 #include "book.h"
 #include "cases.h"
@@ -24,7 +27,7 @@ static const unsigned single[] = {8, 10, 5, 1}, lines[] = {1, 8, 10, 1, 1, 1, 1,
 /* Sound for any number of stages. */
 static const unsigned stages[ROW_NUMBERS] = {1, 8, 10, 2, 3, 3, 3, 3, 3, 3, 3, [RE_PLACE] = 1, 1, 1, 1, 1, 1, 1};
 
-static const unsigned *const plain[SECTIONS] = {single, stages, lines, gauged};
+static const unsigned *const plain[SECTIONS] = {single, stages, lines, gauged, gauged};
 
 /* One row in each list, so that the position of an entry is its section. */
 static void begin(void) {
@@ -50,7 +53,8 @@ static const struct {
               {1, 6, 0, 65535},  {1, 10, 0, 65535}, {1, 13, 0, 65535}, {1, 17, 0, 65535}, {1, 20, 0, 65535},
               {1, 24, 0, 65535}, {2, 0, 0, 2},      {2, 1, 0, 15},     {2, 2, 0, 15},     {2, 3, 1, 65535},
               {2, 4, 1, 65535},  {2, 5, 1, 60000},  {2, 6, 1, 3150},   {3, 0, 0, 2},      {3, 1, 0, 15},
-              {3, 2, 0, 15},     {3, 3, 2, 50},     {3, 4, 1, 4000}};
+              {3, 2, 0, 15},     {3, 3, 2, 50},     {3, 4, 1, 4000},   {4, 0, 0, 2},      {4, 1, 0, 15},
+              {4, 2, 0, 15},     {4, 3, 2, 50},     {4, 4, 1, 4000}};
 
 static void every_range(void) {
     for (unsigned i = 0; i < sizeof ranges / sizeof *ranges; i++) {
@@ -151,10 +155,10 @@ static void every_three_stages(void) {
 
 /* ---- any of the lists bad, and short buffers: the first bad entry is told, then the length */
 
-/* With 8 bytes for the counts, and 8, 20, 16 and 10 for the entries, the book has 62. */
+/* With 10 bytes for the counts, and 8, 20, 16, 10 and 10 for the entries, the book has 74. */
 static void every_room(unsigned number) {
-    for (call.out_len = 0; call.out_len <= 70; call.out_len++)
-        expect_status(number != 0 ? number : call.out_len < 62 ? 11 : 0, "the first bad entry, then the length");
+    for (call.out_len = 0; call.out_len <= 80; call.out_len++)
+        expect_status(number != 0 ? number : call.out_len < 74 ? 11 : 0, "the first bad entry, then the length");
 }
 
 static void every_mixture(void) {
@@ -172,16 +176,16 @@ static void every_mixture(void) {
 
 /* ---- reading: 12, then 6, then 11 */
 
-/* Sections of 1, 2, 3 and no entries, in a book that is sound, has a byte left over, or is too long. */
+/* Sections of 1, 2, 3, no and 2 entries, in a book that is sound, has a byte left over, or is too long. */
 enum { SOUND, BROKEN, LONG, BOOKS };
-static const uint32_t entries[SECTIONS] = {1, 2, 3, 0};
+static const uint32_t entries[SECTIONS] = {1, 2, 3, 0, 2};
 
 static void put_kind_of_book(unsigned kind) {
     begin();
     clear_rows(&call);
     for (unsigned section = 0; section < SECTIONS; section++)
         put_rows(&call, section, plain[section], entries[section]);
-    expect_status(0, "sections of 1, 2, 3 and no entries");
+    expect_status(0, "sections of 1, 2, 3, no and 2 entries");
     call.book_len = answer.written <= call.out_len ? answer.written : 0;
     memcpy(call.book, last_out(), call.book_len);
     call.book_len = kind == BROKEN ? call.book_len + 1 : kind == LONG ? HM_BOOK_BYTES + 1 : call.book_len;

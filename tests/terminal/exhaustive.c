@@ -47,15 +47,9 @@ static void every_plan(void) {
 
 /* A book with one entry, under normal, letter J and AQL 1.0: its numbers, in the section counted from 0. */
 static void put_plan(unsigned section, const unsigned *numbers, unsigned n) {
-    static const unsigned key[] = {0, 8, 10};
-    call.book_len = 0;
-    for (unsigned i = 0; i < SECTIONS; i++) {
-        put_book(&call, i == section);
-        for (unsigned j = 0; i == section && j < 3; j++)
-            put_book(&call, key[j]);
-        for (unsigned j = 0; i == section && j < n; j++)
-            put_book(&call, numbers[j]);
-    }
+    unsigned entry[3 + 1 + 3 * STAGES] = {0, 8, 10};
+    memcpy(entry + 3, numbers, n * sizeof *numbers);
+    set_entry(&call, section, entry, 3 + n);
 }
 
 /* The two bytes of each number differ. */

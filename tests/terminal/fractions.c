@@ -162,6 +162,8 @@ static const struct run_case runs[] = {
     {"in the other modes as well", {0}, "F0+1 roF0+1 rsF0+1 rcF0+1 F0+2 roE1-2 rsG2-2 rcE1-2 rcG2-2 F1+0", NORMAL, 6},
     {"and are judged by the run as it stands", {0}, "rF1-0 F0+1 rF1-1 F0+2 rF1+2 rF1+2 rG1-2 F1+0", NORMAL, 6},
     {"sequential and variables lots are passed over", {0}, "F0+1 qF0+1 qF1-1 F0+2 vF0+2 vF1-2 F1+0", NORMAL, 6},
+    {"lots between two limits are passed over", {0}, "F0+1 wF0+1 wF1-1 F0+2 wF0+2 wF1-2 F1+0", NORMAL, 6},
+    {"lots with a known spread are passed over", {0}, "F0+1 kF0+1 kF1-1 xF0+1 F0+2 xF1-2 kF0+2 F1+0", NORMAL, 6},
 
     {"the lot that gives tightened", {NORMAL, 0, 0, 0, 1}, "G0+1 G0+2 G2-0", TIGHTENED, 0},
     {"a byte that gives tightened", {NORMAL, 0, 0, 0, 1}, "G0+1 G0+2 b3=0 G1-0", TIGHTENED, 0},

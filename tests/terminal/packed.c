@@ -39,8 +39,10 @@ void pack_rows(const struct call *c, struct packed *p) {
     p->len = p->entries = 0;
     for (unsigned section = 0; section < SECTIONS; section++) {
         size_t row = 2 * row_numbers[section], len = p->cut ? 0 : c->lists[section].len, rows = len / row;
-        p->bytes[p->len++] = (uint8_t)rows;
-        p->bytes[p->len++] = (uint8_t)(rows >> 8);
+        if (section < COUNTED_SECTIONS || rows > 0) {
+            p->bytes[p->len++] = (uint8_t)rows;
+            p->bytes[p->len++] = (uint8_t)(rows >> 8);
+        }
         for (size_t i = 0; i < rows; i++)
             pack_row(p, section, c->lists[section].bytes + i * row);
         if (len % row != 0) {
@@ -53,7 +55,7 @@ void pack_rows(const struct call *c, struct packed *p) {
 /* ---- what the reader says */
 
 static struct {
-    unsigned long bad[SECTIONS], cut[SECTIONS], bad_beside_room, room, length, exact, more, longest;
+    unsigned long bad[SECTIONS], cut[SECTIONS], bad_beside_room, room, length, exact, more, longest, of_four, of_five;
 } books;
 
 static unsigned entry_with(const struct packed *p, size_t place) {
@@ -72,6 +74,9 @@ static uint64_t status_of(const struct packed *p, size_t room) {
         books.exact += p->len == room;
         books.more += p->len < room;
         books.longest += p->len <= room && p->len == LONGEST_BOOK;
+        bool five = p->entries > 0 && p->section_of[p->entries - 1] == SIGMA_SECTION;
+        books.of_four += p->len <= room && !five;
+        books.of_five += p->len <= room && five;
         return p->len > room ? 11 : 0;
     }
     books.bad[read != 0 ? p->section_of[bad] : p->cut_section]++;
@@ -114,6 +119,8 @@ bool summary_of_books(void) {
     bool ok = books.exact != 0 && books.more != 0 && books.longest != 0 && books.room != 0 && books.length != 0;
     printf("books: %lu in the very room, %lu in more, %lu of %d bytes, %lu too long for the room, %lu for any",
            books.exact, books.more, books.longest, LONGEST_BOOK, books.room, books.length);
+    printf(", %lu of four sections, %lu of five", books.of_four, books.of_five);
+    ok = books.of_four != 0 && books.of_five != 0 && ok;
     ok = print_lists("bad entries by list", books.bad) && ok;
     ok = print_lists("of these cut short", books.cut) && ok;
     printf(", beside a short room %lu", books.bad_beside_room);

@@ -1,7 +1,7 @@
 /*
  * A plain reading of document 01, section by section, with the record kept from lot to lot, and of document 02: the
- * fractions of T-01, the score of T-02, the written book of T-03, the curtailed count of T-04 and the table's own size
- * of T-05. See reference.h.
+ * fractions of T-01, the score of T-02, the written book of T-03, the curtailed count of T-04, the table's own size of
+ * T-05, and the two limits and the known spread of T-07. See reference.h.
  */
 #include "reference.h"
 
@@ -120,6 +120,7 @@ struct kind {
     unsigned keys;
     uint16_t most[3];
     size_t (*check_body)(struct stretch *);
+    unsigned least_count;
 };
 
 /* Takes the next number; its own place is the fault where it is out of range. */
@@ -192,13 +193,12 @@ static size_t check_variables(struct stretch *s) {
     return fault != SOUND ? fault : take(s, 1, 4000, &k);
 }
 
-enum { REDUCED_SINGLES, STAGED, SEQUENTIAL, VARIABLES, SECTIONS };
+enum { REDUCED_SINGLES, STAGED, SEQUENTIAL, VARIABLES, SIGMA, SECTIONS };
 
+/* Sigma plans are laid out as the variables plans. Their section holds at least one entry where it is there. */
 static const struct kind kinds[SECTIONS] = {
-    {2, {15, 25}, check_reduced},
-    {3, {2, 15, 25}, check_staged},
-    {3, {2, 15, 15}, check_sequential},
-    {3, {2, 15, 15}, check_variables},
+    {2, {15, 25}, check_reduced, 0},      {3, {2, 15, 25}, check_staged, 0},    {3, {2, 15, 15}, check_sequential, 0},
+    {3, {2, 15, 15}, check_variables, 0}, {3, {2, 15, 15}, check_variables, 1},
 };
 
 /* Negative, 0 or positive, as the key at a is before, equal to or after the key at b. */
@@ -227,7 +227,7 @@ static size_t check_key(struct stretch *s, const struct kind *kind, size_t befor
 
 static size_t check_section(struct stretch *s, const struct kind *kind) {
     unsigned count;
-    size_t fault = take(s, 0, 65535, &count), before = SOUND;
+    size_t fault = take(s, kind->least_count, 65535, &count), before = SOUND;
     for (unsigned i = 0; fault == SOUND && i < count; i++) {
         size_t start = s->at;
         fault = check_key(s, kind, before);
@@ -238,10 +238,10 @@ static size_t check_section(struct stretch *s, const struct kind *kind) {
     return fault;
 }
 
-/* A checked book: where each section's count stands. */
+/* A checked book: where each section's count stands, the sigma section's at the end where it is not there. */
 struct book {
     const uint8_t *bytes;
-    size_t section[SECTIONS];
+    size_t len, section[SECTIONS];
 };
 
 static size_t open_book(struct book *book, const uint8_t *bytes, size_t len) {
@@ -249,8 +249,11 @@ static size_t open_book(struct book *book, const uint8_t *bytes, size_t len) {
     if (len > MOST_BOOK)
         return MOST_BOOK;
     book->bytes = bytes;
+    book->len = len;
     for (unsigned i = 0; i < SECTIONS; i++) {
         book->section[i] = s.at;
+        if (i == SIGMA && s.at == len)
+            break;
         size_t fault = check_section(&s, &kinds[i]);
         if (fault != SOUND)
             return fault;
@@ -261,13 +264,18 @@ static size_t open_book(struct book *book, const uint8_t *bytes, size_t len) {
 /* ---- the plan book: looking up. Only a sound book is looked into. */
 
 static size_t body_bytes(const uint8_t *bytes, unsigned section, size_t body) {
-    static const uint8_t fixed[SECTIONS] = {4, 0, 10, 4};
+    static const uint8_t fixed[SECTIONS] = {4, 0, 10, 4, 4};
     return section == STAGED ? 2 + 6 * (size_t)number_at(bytes, body) : fixed[section];
+}
+
+static unsigned entries_in(const struct book *book, unsigned section) {
+    size_t at = book->section[section];
+    return at < book->len ? number_at(book->bytes, at) : 0;
 }
 
 /* The place of the body under the key, or SOUND where there is none. */
 static size_t find_body(const struct book *book, unsigned section, const unsigned *key) {
-    unsigned keys = kinds[section].keys, count = number_at(book->bytes, book->section[section]);
+    unsigned keys = kinds[section].keys, count = entries_in(book, section);
     size_t at = book->section[section] + 2;
     for (unsigned i = 0; i < count; i++) {
         unsigned same = 0;
@@ -283,8 +291,9 @@ static size_t find_body(const struct book *book, unsigned section, const unsigne
 
 /* ---- a lot, and what is refused before its plan is known */
 
+/* Where there are two limits, the column is that of the upper one; elsewhere the lower column is 0. */
 struct lot {
-    uint32_t size, level, column, severity;
+    uint32_t size, level, column, lower_column, severity;
     unsigned letter;
     struct book book;
 };
@@ -300,7 +309,7 @@ static uint32_t check_lot(struct lot *lot) {
         return 2;
     if (lot->level > 6)
         return 3;
-    if (lot->column > 25)
+    if (lot->column > 25 || lot->lower_column > 25)
         return 4;
     if (lot->severity == STOPPED)
         return 5;
@@ -580,8 +589,9 @@ struct variables_plan {
     unsigned n, k;
 };
 
-static uint32_t find_variables(const struct lot *lot, struct variables_plan *plan) {
-    size_t body = find_for_lot(lot, VARIABLES);
+/* The section is that of the variables plans, or of the sigma plans. */
+static uint32_t find_variables(const struct lot *lot, unsigned section, struct variables_plan *plan) {
+    size_t body = find_for_lot(lot, section);
     if (body == SOUND)
         return 6;
     plan->n = number_at(lot->book.bytes, body);
@@ -593,7 +603,7 @@ static uint32_t judge_variables(struct lot *lot, const uint8_t *readings, size_t
                                 unsigned *accepted, unsigned *used) {
     struct variables_plan plan;
     struct sums sums;
-    uint32_t status = find_variables(lot, &plan);
+    uint32_t status = find_variables(lot, VARIABLES, &plan);
     if (status != 0)
         return status;
     if (len != 2 * (size_t)plan.n)
@@ -602,6 +612,81 @@ static uint32_t judge_variables(struct lot *lot, const uint8_t *readings, size_t
         return 9;
     *accepted = margin_suffices(side * (sums.n * limit - sums.sum), &sums, plan.k);
     *used = plan.n;
+    return 0;
+}
+
+/* ---- variables, sigma method: sigma and k are both in thousandths, so that their product is in millionths */
+
+static bool sigma_in_range(uint32_t sigma) {
+    return sigma >= 1 && sigma <= 1000;
+}
+
+/* Both products are below 2^37. The right one is above 0, so that a margin below 0 never suffices. */
+static bool known_suffices(int64_t margin, int64_t n, int64_t k, int64_t sigma) {
+    return 1000000 * margin >= k * sigma * n;
+}
+
+static uint32_t judge_sigma(const struct lot *lot, const uint8_t *readings, size_t len, int32_t limit, uint32_t sigma,
+                            int side, struct verdict *verdict) {
+    struct variables_plan plan;
+    struct sums sums;
+    uint32_t status = find_variables(lot, SIGMA, &plan);
+    if (status != 0)
+        return status;
+    if (len != 2 * (size_t)plan.n)
+        return 7;
+    if (add_readings(readings, plan.n, &sums) != 0 || !in_gauge(limit) || !sigma_in_range(sigma))
+        return 9;
+    verdict->accepted = known_suffices(side * (sums.n * limit - sums.sum), sums.n, plan.k, sigma);
+    verdict->used = plan.n;
+    return 0;
+}
+
+/* ---- variables by either method between two limits, each with a K of its own */
+
+/* What the readings are held to. The section tells the method; sigma is looked at in the sigma method alone. */
+struct gauge {
+    unsigned section;
+    int32_t upper, lower;
+    uint32_t sigma;
+};
+
+static bool gauge_in_range(const struct gauge *gauge) {
+    if (!in_gauge(gauge->upper) || !in_gauge(gauge->lower) || gauge->lower >= gauge->upper)
+        return false;
+    return gauge->section != SIGMA || sigma_in_range(gauge->sigma);
+}
+
+/* Each side has the entry under its own column; one sample serves both, so that they need one n. */
+static uint32_t find_sides(const struct lot *lot, unsigned section, struct variables_plan *upper,
+                           struct variables_plan *lower) {
+    struct lot below = *lot;
+    below.column = lot->lower_column;
+    if (find_variables(lot, section, upper) != 0 || find_variables(&below, section, lower) != 0)
+        return 6;
+    return upper->n != lower->n ? 6 : 0;
+}
+
+static bool side_accepts(const struct gauge *gauge, const struct sums *sums, int64_t margin, unsigned k) {
+    if (gauge->section == SIGMA)
+        return known_suffices(margin, sums->n, k, gauge->sigma);
+    return margin_suffices(margin, sums, k);
+}
+
+static uint32_t judge_both(const struct lot *lot, const struct gauge *gauge, const uint8_t *readings, size_t len,
+                           struct verdict *verdict) {
+    struct variables_plan upper, lower;
+    struct sums sums;
+    uint32_t status = find_sides(lot, gauge->section, &upper, &lower);
+    if (status != 0)
+        return status;
+    if (len != 2 * (size_t)upper.n)
+        return 7;
+    if (add_readings(readings, upper.n, &sums) != 0 || !gauge_in_range(gauge))
+        return 9;
+    verdict->accepted = side_accepts(gauge, &sums, sums.n * gauge->upper - sums.sum, upper.k) &&
+                        side_accepts(gauge, &sums, sums.sum - sums.n * gauge->lower, lower.k);
+    verdict->used = upper.n;
     return 0;
 }
 
@@ -830,7 +915,7 @@ uint32_t ref_variables_plan(uint32_t size, uint32_t level, uint32_t column, uint
     struct variables_plan plan;
     uint32_t status = open_lot(&lot, book, book_len);
     if (status == 0)
-        status = find_variables(&lot, &plan);
+        status = find_variables(&lot, VARIABLES, &plan);
     if (status != 0)
         return status;
     *letter = (uint8_t)lot.letter;
@@ -914,6 +999,55 @@ uint32_t ref_variables_lower(uint32_t size, uint32_t level, uint32_t column, uin
                              uint8_t *accepted, uint16_t *used) {
     struct lot lot = {.size = size, .level = level, .column = column, .severity = severity};
     return variables(lot, book, book_len, readings, readings_len, limit, -1, accepted, used);
+}
+
+/* The side is 1 for an upper limit and -1 for a lower one. */
+static uint32_t known(struct lot lot, const uint8_t *book, size_t book_len, const uint8_t *readings,
+                      size_t readings_len, int32_t limit, uint32_t sigma, int side, uint8_t *accepted, uint16_t *used) {
+    struct verdict verdict;
+    uint32_t status = open_lot(&lot, book, book_len);
+    if (status == 0)
+        status = judge_sigma(&lot, readings, readings_len, limit, sigma, side, &verdict);
+    return answer(status, &verdict, accepted, used);
+}
+
+uint32_t ref_sigma_upper(uint32_t size, uint32_t level, uint32_t column, uint32_t severity, const uint8_t *book,
+                         size_t book_len, const uint8_t *readings, size_t readings_len, int32_t limit, uint32_t sigma,
+                         uint8_t *accepted, uint16_t *used) {
+    struct lot lot = {.size = size, .level = level, .column = column, .severity = severity};
+    return known(lot, book, book_len, readings, readings_len, limit, sigma, 1, accepted, used);
+}
+
+uint32_t ref_sigma_lower(uint32_t size, uint32_t level, uint32_t column, uint32_t severity, const uint8_t *book,
+                         size_t book_len, const uint8_t *readings, size_t readings_len, int32_t limit, uint32_t sigma,
+                         uint8_t *accepted, uint16_t *used) {
+    struct lot lot = {.size = size, .level = level, .column = column, .severity = severity};
+    return known(lot, book, book_len, readings, readings_len, limit, sigma, -1, accepted, used);
+}
+
+static uint32_t both(struct lot lot, const uint8_t *book, size_t book_len, const uint8_t *readings, size_t readings_len,
+                     const struct gauge *gauge, uint8_t *accepted, uint16_t *used) {
+    struct verdict verdict;
+    uint32_t status = open_lot(&lot, book, book_len);
+    if (status == 0)
+        status = judge_both(&lot, gauge, readings, readings_len, &verdict);
+    return answer(status, &verdict, accepted, used);
+}
+
+uint32_t ref_variables_both(uint32_t size, uint32_t level, uint32_t upper_column, uint32_t lower_column,
+                            uint32_t severity, const uint8_t *book, size_t book_len, const uint8_t *readings,
+                            size_t readings_len, int32_t upper, int32_t lower, uint8_t *accepted, uint16_t *used) {
+    struct lot lot = {size, level, upper_column, lower_column, severity, 0, {0}};
+    const struct gauge gauge = {VARIABLES, upper, lower, 0};
+    return both(lot, book, book_len, readings, readings_len, &gauge, accepted, used);
+}
+
+uint32_t ref_sigma_both(uint32_t size, uint32_t level, uint32_t upper_column, uint32_t lower_column, uint32_t severity,
+                        const uint8_t *book, size_t book_len, const uint8_t *readings, size_t readings_len,
+                        int32_t upper, int32_t lower, uint32_t sigma, uint8_t *accepted, uint16_t *used) {
+    struct lot lot = {size, level, upper_column, lower_column, severity, 0, {0}};
+    const struct gauge gauge = {SIGMA, upper, lower, sigma};
+    return both(lot, book, book_len, readings, readings_len, &gauge, accepted, used);
 }
 
 /* ---- the entries: the record */
@@ -1079,7 +1213,7 @@ uint32_t ref_check_book(const uint8_t *book, size_t book_len) {
 
 enum { SIZES = 8, ACS = SIZES + 2 * MOST_STAGES, RES = ACS + 2 * MOST_STAGES, STAGED_ROW = RES + 2 * MOST_STAGES };
 
-static const uint8_t row_bytes[SECTIONS] = {8, STAGED_ROW, 16, 10};
+static const uint8_t row_bytes[SECTIONS] = {8, STAGED_ROW, 16, 10, 10};
 
 struct rows {
     const uint8_t *bytes;
@@ -1161,13 +1295,23 @@ static uint8_t *write_section(const struct rows *list, unsigned section, uint8_t
     return out;
 }
 
+/* A section that holds at least one entry, where it is there, is not there for none. */
+static bool is_written(const struct rows *list, unsigned section) {
+    return list->len > 0 || kinds[section].least_count == 0;
+}
+
 uint32_t ref_write_book(const uint8_t *reduced, size_t reduced_len, const uint8_t *staged, size_t staged_len,
                         const uint8_t *sequential, size_t sequential_len, const uint8_t *variables,
-                        size_t variables_len, uint8_t *out, size_t out_len, uint32_t *written) {
-    const struct rows lists[SECTIONS] = {
-        {reduced, reduced_len}, {staged, staged_len}, {sequential, sequential_len}, {variables, variables_len}};
-    size_t position = 0, len = 2 * SECTIONS;
+                        size_t variables_len, const uint8_t *sigma, size_t sigma_len, uint8_t *out, size_t out_len,
+                        uint32_t *written) {
+    const struct rows lists[SECTIONS] = {{reduced, reduced_len},
+                                         {staged, staged_len},
+                                         {sequential, sequential_len},
+                                         {variables, variables_len},
+                                         {sigma, sigma_len}};
+    size_t position = 0, len = 0;
     for (unsigned i = 0; i < SECTIONS; i++) {
+        len += is_written(&lists[i], i) ? 2 : 0;
         size_t rows = count_rows(&lists[i], i, &len);
         position += rows;
         if (rows * row_bytes[i] < lists[i].len)
@@ -1176,7 +1320,8 @@ uint32_t ref_write_book(const uint8_t *reduced, size_t reduced_len, const uint8_
     if (len > out_len || len > MOST_BOOK)
         return 11;
     for (unsigned i = 0; i < SECTIONS; i++)
-        out = write_section(&lists[i], i, out);
+        if (is_written(&lists[i], i))
+            out = write_section(&lists[i], i, out);
     *written = (uint32_t)len;
     return 0;
 }
@@ -1186,7 +1331,7 @@ uint32_t ref_count_entries(const uint8_t *book, size_t book_len, uint32_t sectio
     size_t fault = open_book(&opened, book, book_len);
     if (fault != SOUND)
         return refuse(12, fault);
-    *count = section < SECTIONS ? number_at(book, opened.section[section]) : 0;
+    *count = section < SECTIONS ? entries_in(&opened, section) : 0;
     return 0;
 }
 
@@ -1207,7 +1352,7 @@ uint32_t ref_read_entry(const uint8_t *book, size_t book_len, uint32_t section, 
     size_t fault = open_book(&opened, book, book_len), at;
     if (fault != SOUND)
         return refuse(12, fault);
-    if (section >= SECTIONS || nth >= number_at(book, opened.section[section]))
+    if (section >= SECTIONS || nth >= entries_in(&opened, section))
         return 6;
     if (row_len < row_bytes[section])
         return 11;

@@ -1,7 +1,7 @@
 /*
- * A plain reading of document 01, and of T-01 to T-05 of document 02, in C, written from the documents alone. A ref_
- * function answers as the hm_ function of the same name in hipomoake.h must. The last ones have none: lotlog's closing,
- * and the written reading of a history.
+ * A plain reading of document 01, and of T-01 to T-05 and T-07 of document 02, in C, written from the documents alone.
+ * A ref_ function answers as the hm_ function of the same name in hipomoake.h must. The last ones have none: lotlog's
+ * closing, and the written reading of a history.
  */
 #ifndef REFERENCE_H
 #define REFERENCE_H
@@ -36,6 +36,18 @@ uint32_t ref_variables_upper(uint32_t size, uint32_t level, uint32_t column, uin
 uint32_t ref_variables_lower(uint32_t size, uint32_t level, uint32_t column, uint32_t severity, const uint8_t *book,
                              size_t book_len, const uint8_t *readings, size_t readings_len, int32_t limit,
                              uint8_t *accepted, uint16_t *used);
+uint32_t ref_variables_both(uint32_t size, uint32_t level, uint32_t upper_column, uint32_t lower_column,
+                            uint32_t severity, const uint8_t *book, size_t book_len, const uint8_t *readings,
+                            size_t readings_len, int32_t upper, int32_t lower, uint8_t *accepted, uint16_t *used);
+uint32_t ref_sigma_upper(uint32_t size, uint32_t level, uint32_t column, uint32_t severity, const uint8_t *book,
+                         size_t book_len, const uint8_t *readings, size_t readings_len, int32_t limit, uint32_t sigma,
+                         uint8_t *accepted, uint16_t *used);
+uint32_t ref_sigma_lower(uint32_t size, uint32_t level, uint32_t column, uint32_t severity, const uint8_t *book,
+                         size_t book_len, const uint8_t *readings, size_t readings_len, int32_t limit, uint32_t sigma,
+                         uint8_t *accepted, uint16_t *used);
+uint32_t ref_sigma_both(uint32_t size, uint32_t level, uint32_t upper_column, uint32_t lower_column, uint32_t severity,
+                        const uint8_t *book, size_t book_len, const uint8_t *readings, size_t readings_len,
+                        int32_t upper, int32_t lower, uint32_t sigma, uint8_t *accepted, uint16_t *used);
 uint32_t ref_fractional(const uint8_t *record, size_t record_len, uint32_t size, uint32_t level, uint32_t column,
                         const uint8_t *book, size_t book_len, const uint8_t *sample, size_t sample_len,
                         uint8_t *accepted, uint16_t *used);
@@ -56,7 +68,8 @@ uint64_t ref_list(const uint8_t *history, size_t len, uint8_t *severities, size_
 uint32_t ref_check_book(const uint8_t *book, size_t book_len);
 uint32_t ref_write_book(const uint8_t *reduced, size_t reduced_len, const uint8_t *staged, size_t staged_len,
                         const uint8_t *sequential, size_t sequential_len, const uint8_t *variables,
-                        size_t variables_len, uint8_t *out, size_t out_len, uint32_t *written);
+                        size_t variables_len, const uint8_t *sigma, size_t sigma_len, uint8_t *out, size_t out_len,
+                        uint32_t *written);
 uint32_t ref_count_entries(const uint8_t *book, size_t book_len, uint32_t section, uint32_t *count);
 uint32_t ref_read_entry(const uint8_t *book, size_t book_len, uint32_t section, uint32_t nth, uint8_t *row,
                         size_t row_len, uint32_t *numbers);

@@ -3,6 +3,7 @@
 #include "cases.h"
 #include "curtail.h"
 #include "draw.h"
+#include "sides.h"
 
 #include <string.h>
 
@@ -24,11 +25,11 @@ static void put_small_book(void) {
     static const struct {
         const unsigned *numbers;
         unsigned n;
-    } bodies[] = {{staged, 7}, {sequential, 5}, {gauged, 2}};
+    } bodies[] = {{staged, 7}, {sequential, 5}, {gauged, 2}, {gauged, 2}};
     call.book_len = 0;
     put_book(&call, 1);
     put_numbers(reduced, 4);
-    for (unsigned section = 0; section < 3; section++) {
+    for (unsigned section = 0; section < 4; section++) {
         put_book(&call, 3);
         for (unsigned severity = NORMAL; severity <= REDUCED; severity++) {
             const unsigned key[] = {severity, 8, 10};
@@ -93,7 +94,7 @@ static unsigned early_refusal(unsigned book) {
         return 2;
     if (call.level > 6)
         return 3;
-    if (call.column > 25)
+    if (call.column > 25 || (has_two_limits(call.function) && call.lower_column > 25))
         return 4;
     return severity == STOPPED ? 5 : severity == REDUCED && is_curtailed(call.function) ? 6 : 0;
 }
@@ -107,11 +108,26 @@ static void run_mixture(unsigned book) {
         report("a number that does not apply is given", &call);
 }
 
+/* Few with a book that is too long: it is copied at every call. */
+static bool in_brief(unsigned book) {
+    return book == LONG && is_of_t07(call.function);
+}
+
 static void every_sample(unsigned book) {
-    for (unsigned sample = 0; sample < SAMPLES; sample++) {
+    for (unsigned sample = 0; sample < (in_brief(book) ? 1 : SAMPLES); sample++) {
         put_kind_of_sample(sample);
         call.out_len = sample % 2 == 0 ? ROW : ROW - 1;
         run_mixture(book);
+    }
+}
+
+/* A lower column that has a plan, and one that is none. */
+static void every_lower_column(unsigned book) {
+    static const uint32_t columns[] = {10, 26};
+    unsigned count = has_two_limits(call.function) && !in_brief(book) ? 2 : 1;
+    for (unsigned column = 0; column < count; column++) {
+        call.lower_column = columns[column];
+        every_sample(book);
     }
 }
 
@@ -123,7 +139,7 @@ static void every_lot(unsigned book) {
                 call.size = sizes[size];
                 call.level = levels[level];
                 call.column = columns[column];
-                every_sample(book);
+                every_lower_column(book);
             }
 }
 
@@ -143,6 +159,8 @@ static void every_function(unsigned book, unsigned record) {
 void refusal_cases(void) {
     draw_fixed();
     memset(&call, 0, sizeof call);
+    call.lower_limit = -1;
+    call.sigma = 1;
     for (unsigned book = 0; book < BOOKS; book++) {
         put_kind_of_book(book);
         for (unsigned record = 0; record < (book == LONG ? 1u : RECORDS); record++)

@@ -118,9 +118,13 @@ static void draw_any_book(void) {
 }
 
 static void draw_few_rows(void) {
-    do
+    size_t rows;
+    do {
         draw_rows(&call);
-    while (rows_in(&call, 0) + rows_in(&call, 1) + rows_in(&call, 2) + rows_in(&call, 3) > 100);
+        rows = 0;
+        for (unsigned section = 0; section < SECTIONS; section++)
+            rows += rows_in(&call, section);
+    } while (rows > 100);
 }
 
 void round_trips(void) {

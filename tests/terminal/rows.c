@@ -10,7 +10,7 @@
 
 enum { MARK = 65535 };
 
-const unsigned row_numbers[SECTIONS] = {4, ROW_NUMBERS, 8, 5};
+const unsigned row_numbers[SECTIONS] = {4, ROW_NUMBERS, 8, 5, 5};
 
 /* ---- rows in a list */
 
@@ -113,7 +113,7 @@ static unsigned keys_of(unsigned section) {
 }
 
 static void draw_row(struct call *c, unsigned section, unsigned nth_key) {
-    static void (*const draws[SECTIONS])(unsigned *) = {draw_reduced, draw_stages, draw_lines, draw_gauge};
+    static void (*const draws[SECTIONS])(unsigned *) = {draw_reduced, draw_stages, draw_lines, draw_gauge, draw_gauge};
     unsigned numbers[ROW_NUMBERS] = {0};
     draws[section](numbers + key_numbers[section]);
     put_row(c, section, numbers);
@@ -138,10 +138,12 @@ static void draw_all_keys(struct call *c, unsigned section) {
 }
 
 void draw_long_rows(struct call *c, size_t wanted) {
-    size_t left = wanted - 2 * SECTIONS;
+    size_t left = wanted - 2 * COUNTED_SECTIONS;
     clear_rows(c);
     draw_list(c, HM_SEQUENTIAL_SECTION, below(20));
-    left -= c->lists[HM_SEQUENTIAL_SECTION].len;
+    draw_list(c, SIGMA_SECTION, one_in(2) ? below(20) : 0);
+    left -= c->lists[HM_SEQUENTIAL_SECTION].len + c->lists[SIGMA_SECTION].len;
+    left -= c->lists[SIGMA_SECTION].len > 0 ? 2 : 0;
     for (unsigned key = 0; key < keys_of(HM_STAGED_SECTION) && left > 400; key++) {
         draw_row(c, HM_STAGED_SECTION, key);
         left -= 8 + 6 * get_row(c, HM_STAGED_SECTION, key, STAGES_PLACE);

@@ -3,6 +3,7 @@
 
 #include "book.h"
 #include "reference.h"
+#include "sides.h"
 
 enum { AQL_1_0 = 10, AQL_1_5 = 11, LETTER_E = 4, LETTER_F = 5, LETTER_H = 7, LETTER_J = 8 };
 
@@ -16,8 +17,8 @@ static void put_numbers(struct call *c, const unsigned *numbers, unsigned n) {
 static void put_body(struct call *c, unsigned section) {
     static const unsigned reduced[] = {3, 0}, staged[] = {2, 1, 1, 0, 2, 1, 2};
     static const unsigned sequential[] = {500, 500, 50000, 4, 2}, gauged[] = {2, 1000};
-    static const unsigned *const bodies[SECTIONS] = {reduced, staged, sequential, gauged};
-    static const unsigned lengths[SECTIONS] = {2, 7, 5, 2};
+    static const unsigned *const bodies[SECTIONS] = {reduced, staged, sequential, gauged, gauged};
+    static const unsigned lengths[SECTIONS] = {2, 7, 5, 2, 2};
     put_numbers(c, bodies[section], lengths[section]);
 }
 
@@ -35,9 +36,10 @@ void put_words_book(struct call *c) {
     c->book_len = 0;
     put_reduced(c);
     for (unsigned section = 1; section < SECTIONS; section++) {
-        put_book(c, 3 * (LETTER_H - LETTER_F + 1));
+        unsigned last = section == SIGMA_SECTION ? LETTER_F : LETTER_H;
+        put_book(c, 3 * (last - LETTER_F + 1));
         for (unsigned severity = 0; severity < 3; severity++)
-            for (unsigned letter = LETTER_F; letter <= LETTER_H; letter++) {
+            for (unsigned letter = LETTER_F; letter <= last; letter++) {
                 const unsigned key[] = {severity, letter, AQL_1_0};
                 put_numbers(c, key, 3);
                 put_body(c, section);
@@ -73,6 +75,12 @@ static enum function function_of(char kind) {
         return SEQUENTIAL;
     case 'v':
         return UPPER;
+    case 'w':
+        return BOTH;
+    case 'k':
+        return SIGMA_UPPER;
+    case 'x':
+        return SIGMA_BOTH;
     case 'b':
         return NEXT;
     default:
@@ -96,13 +104,17 @@ static unsigned items_for(const struct call *c, unsigned bad) {
     return c->function == CLOSE_CURTAILED && bad > ac ? ac + 1u : n;
 }
 
-/* The first items are bad; of two readings that are alike, bad ones are above the limit. */
+/* The first items are bad; of two readings that are alike, bad ones are above the limit, or above the upper one. */
 static void put_sample(struct call *c, unsigned bad) {
-    unsigned n = c->function == UPPER ? 2 : items_for(c, bad);
+    bool readings = judges_readings(c->function);
+    unsigned n = readings ? 2 : items_for(c, bad);
     c->limit = 1;
+    c->lower_limit = -1;
+    c->lower_column = c->column;
+    c->sigma = 1000;
     c->sample_len = 0;
     for (unsigned i = 0; i < n; i++)
-        put_item(c, c->function == UPPER ? 2 * bad : i < bad);
+        put_item(c, readings ? 2 * bad : i < bad);
 }
 
 const char *put_word(struct call *c, const char *word) {

@@ -1,4 +1,4 @@
-/* T-03, worked: rows of document 01, of ISO 8422 and of ISO 3951-1, and the bytes of their book. */
+/* T-03, worked, with T-07's fifth list: rows of document 01, of ISO 8422 and of ISO 3951-1, and their book's bytes. */
 #include "../../include/hipomoake.h"
 #include "book.h"
 #include "cases.h"
@@ -34,6 +34,9 @@ static void begin(enum function function) {
 static const unsigned single[] = {8, 10, 32, 1};
 static const unsigned gauged[] = {NORMAL, 8, 5, 28, 2580};
 
+/* ISO 3951-1, table 5: letter J at AQL 1.5 takes 19 readings, with k 1.677, where the spread is known. */
+static const unsigned known[] = {NORMAL, 8, 11, 19, 1677};
+
 /* Document 01: stages of 3 with (#,2)(0,3)(0,3)(1,3)(3,4). */
 static const unsigned five_stages[] = {NORMAL, 8, 10, 5, 3, 3, 3, 3, 3, 0, 0, MARK, 0,
                                        0,      1, 3,  0, 0, 2, 3, 3, 3, 4, 0, 0};
@@ -41,9 +44,10 @@ static const unsigned five_stages[] = {NORMAL, 8, 10, 5, 3, 3, 3, 3, 3, 0, 0, MA
 /* Document 01: hA 1.750, hR 2.247, g 0.0957, nt 98, At 9. */
 static const unsigned insulators[] = {NORMAL, 8, 10, 1750, 2247, 9570, 98, 9};
 
-static const unsigned *const one_of_each[SECTIONS] = {single, five_stages, insulators, gauged};
+static const unsigned *const one_of_each[SECTIONS] = {single, five_stages, insulators, gauged, known};
 
-enum { THEIR_BYTES = 80 };
+/* With the fifth section, and without it. */
+enum { THEIR_BYTES = 92, OLD_BYTES = 80 };
 
 /* clang-format off */
 static const uint8_t their_book[THEIR_BYTES] = {
@@ -52,6 +56,7 @@ static const uint8_t their_book[THEIR_BYTES] = {
            255, 255, 2, 0,  0, 0, 3, 0,  0, 0, 3, 0,  1, 0, 3, 0,  3, 0, 4, 0,
     1, 0,  0, 0, 8, 0, 10, 0,  0xd6, 6, 0xc7, 8, 0x62, 0x25, 98, 0, 9, 0,
     1, 0,  0, 0, 8, 0, 5, 0,  28, 0, 0x14, 10,
+    1, 0,  0, 0, 8, 0, 11, 0,  19, 0, 0x8d, 6,
 };
 /* clang-format on */
 
@@ -80,7 +85,34 @@ static void written_out(void) {
     expect_their_book("places past the five stages count for nothing");
 }
 
-/* Each section of the empty lists has its count alone. */
+/* Where there is no sigma plan the book is as it was before there were any: four sections and nothing after them. */
+static void four_sections_written(void) {
+    begin(WRITE_BOOK);
+    put_one_of_each();
+    call.lists[SIGMA_SECTION].len = 0;
+    for (call.out_len = OLD_BYTES - 2; call.out_len <= THEIR_BYTES; call.out_len++) {
+        expect_status(call.out_len < OLD_BYTES ? 11 : 0, "a book without sigma plans, in its room");
+        expect(call.out_len < OLD_BYTES || answer.written == OLD_BYTES, "no fifth count is written for no entries");
+        expect(call.out_len < OLD_BYTES || memcmp(last_out(), their_book, OLD_BYTES) == 0, "the four sections' bytes");
+    }
+}
+
+/* A sigma plan alone stands after four counts of 0. */
+static void fifth_section_written(void) {
+    static const uint8_t alone[] = {0, 0, 0, 0, 0, 0, 0, 0, 1, 0, 0, 0, 8, 0, 11, 0, 19, 0, 0x8d, 6};
+    begin(WRITE_BOOK);
+    put_row(&call, SIGMA_SECTION, known);
+    for (call.out_len = 0; call.out_len < sizeof alone; call.out_len++)
+        expect_status(11, "a sigma plan alone has twenty bytes");
+    for (; call.out_len < sizeof alone + 4; call.out_len++) {
+        expect_status(0, "a sigma plan alone");
+        expect(answer.written == 20 && memcmp(last_out(), alone, sizeof alone) == 0, "the bytes of a sigma plan alone");
+    }
+    for (call.lists[SIGMA_SECTION].len = 1; call.lists[SIGMA_SECTION].len < 10; call.lists[SIGMA_SECTION].len++)
+        expect_status(12, "a first sigma row that is cut short");
+}
+
+/* Each of the first four sections of the empty lists has its count alone. */
 static void nothing_written(void) {
     static const uint8_t no_book[] = HM_NO_BOOK;
     begin(WRITE_BOOK);
@@ -97,8 +129,14 @@ static void put_their_book(void) {
     call.book_len = THEIR_BYTES;
 }
 
+/* The same entries but for the last. */
+static void put_old_book(void) {
+    put_their_book();
+    call.book_len = OLD_BYTES;
+}
+
 static void counted(void) {
-    static const uint32_t others[] = {4, 5, 256, 65536, 0x80000000, UINT32_MAX};
+    static const uint32_t others[] = {5, 6, 256, 260, 65536, 65540, 0x80000000, 0x80000004, UINT32_MAX};
     begin(COUNT_ENTRIES);
     put_their_book();
     for (call.section = 0; call.section < SECTIONS; call.section++) {
@@ -110,6 +148,11 @@ static void counted(void) {
         expect_status(0, "the entries of a section that is not there");
         expect(answer.count == 0, "a section that is not there has none");
     }
+    put_old_book();
+    for (call.section = 0; call.section < SECTIONS; call.section++) {
+        expect_status(0, "the entries of a section of a book without sigma plans");
+        expect(answer.count == (call.section < SIGMA_SECTION), "a book of four sections has no sigma plans");
+    }
 }
 
 static void expect_row(const unsigned *numbers, unsigned n, const char *what) {
@@ -120,7 +163,7 @@ static void expect_row(const unsigned *numbers, unsigned n, const char *what) {
 }
 
 static void read_out(void) {
-    static const unsigned numbers[] = {4, 25, 8, 5};
+    static const unsigned numbers[SECTIONS] = {4, 25, 8, 5, 5};
     begin(READ_ENTRY);
     put_their_book();
     for (call.section = 0; call.section < SECTIONS; call.section++) {
@@ -134,6 +177,12 @@ static void read_out(void) {
     }
     call.nth = 0;
     expect_status(6, "a section that is not there has no entry");
+    put_old_book();
+    call.section = SIGMA_SECTION;
+    for (call.out_len = 0; call.out_len <= HM_ENTRY_BYTES; call.out_len++)
+        expect_status(6, "a book of four sections has no sigma plan to show");
+    call.section = HM_VARIABLES_SECTION;
+    expect_row(gauged, 5, "a book of four sections has its variables plan as before");
 }
 
 /* What was written is a book to look plans up in. */
@@ -193,9 +242,9 @@ static void eight_stages(void) {
     expect_status(12, "there are no more than seven stages");
 }
 
-/* ---- the position of the first bad entry, through lists of 2, 3, 1 and 2 rows */
+/* ---- the position of the first bad entry, through lists of 2, 3, 1, 2 and 2 rows */
 
-static const unsigned lists[SECTIONS] = {2, 3, 1, 2};
+static const unsigned lists[SECTIONS] = {2, 3, 1, 2, 2};
 
 static void put_lists(void) {
     begin(WRITE_BOOK);
@@ -217,7 +266,7 @@ static void spoil_from(unsigned section, size_t row) {
 static void positions(void) {
     unsigned position = 0;
     put_lists();
-    expect_status(0, "lists of 2, 3, 1 and 2 rows");
+    expect_status(0, "lists of 2, 3, 1, 2 and 2 rows");
     for (unsigned section = 0; section < SECTIONS; section++)
         for (unsigned row = 0; row < lists[section]; row++, position++) {
             put_lists();
@@ -228,7 +277,7 @@ static void positions(void) {
             call.out_len = 0;
             expect_status(12 | position << 8, "a bad entry is told before a short buffer");
         }
-    expect(position == 8, "eight entries");
+    expect(position == 10, "ten entries");
 }
 
 /* The last row of each list in turn, by every number of bytes. */
@@ -249,14 +298,16 @@ static void cut_rows(void) {
     }
 }
 
-/* ---- books beside the longest: 8 bytes, and 8, 32, 16 and 10 for each row of the four lists */
+/* ---- books beside the longest: 8 bytes, 8, 32, 16, 10 and 10 for each row, and 2 where there is a fifth list */
 
 static const unsigned four_stages[] = {0, 0, 0, 4, 1, 1, 1, 1, 0, 0, 0, 0, 0, 1, 2, 0, 0, 0, 2, 3, 3, 3, 0, 0, 0};
 
 static const struct {
     unsigned rows[SECTIONS], len;
-} long_books[] = {
-    {{3, 1022, 0, 3}, 32766}, {{3, 1023, 0, 0}, 32768}, {{0, 1023, 1, 1}, 32770}, {{4, 1100, 1, 2}, 35276}};
+} long_books[] = {{{3, 1022, 0, 3, 0}, 32766}, {{3, 1023, 0, 0, 0}, 32768}, {{0, 1023, 1, 1, 0}, 32770},
+                  {{4, 1100, 1, 2, 0}, 35276}, {{0, 1023, 0, 0, 1}, 32756}, {{0, 1023, 0, 1, 1}, 32766},
+                  {{0, 1022, 0, 1, 3}, 32754}, {{0, 1022, 1, 1, 3}, 32770}, {{2, 1022, 0, 0, 3}, 32760},
+                  {{3, 1022, 0, 0, 3}, 32768}, {{3, 1022, 0, 3, 1}, 32778}};
 
 static void put_long_book(unsigned book) {
     begin(WRITE_BOOK);
@@ -268,6 +319,10 @@ static void put_long_book(unsigned book) {
 /* Bad entries after what is too long, and in it. */
 static void spoil_long_book(unsigned book) {
     const unsigned *rows = long_books[book].rows;
+    if (rows[4] > 0) {
+        spoil(SIGMA_SECTION, rows[4] - 1);
+        expect_status(12 | (rows[0] + rows[1] + rows[2] + rows[3] + rows[4] - 1) << 8, "a bad entry before any length");
+    }
     if (rows[3] > 0) {
         spoil(HM_VARIABLES_SECTION, rows[3] - 1);
         expect_status(12 | (rows[0] + rows[1] + rows[2] + rows[3] - 1) << 8, "a bad entry is told before any length");
@@ -294,19 +349,20 @@ static void beside_the_longest(void) {
 
 static void all_keys(void) {
     static const unsigned two_stages[ROW_NUMBERS] = {0, 0, 0, 2, 5, 5, [AC_PLACE] = 0, 1, [RE_PLACE] = 2, 2};
-    static const unsigned keys[] = {416, 1248, 768, 768}, bytes[] = {8, 20, 16, 10};
+    static const unsigned keys[SECTIONS] = {416, 1248, 768, 768, 768}, bytes[SECTIONS] = {8, 20, 16, 10, 10};
     for (unsigned section = 0; section < SECTIONS; section++) {
         const unsigned *numbers = section == HM_STAGED_SECTION ? two_stages : one_of_each[section];
         begin(WRITE_BOOK);
         put_rows(&call, section, numbers, keys[section]);
         expect_status(0, "every key of a section, in order");
-        expect(answer.written == 8 + keys[section] * bytes[section], "how many bytes they have");
+        expect(answer.written == (section == SIGMA_SECTION ? 10 : 8) + keys[section] * bytes[section],
+               "how many bytes they have");
         put_row(&call, section, numbers);
         expect_status(12 | keys[section] << 8, "after the last key none rises");
     }
 }
 
-/* 8 bytes, 416 entries of 8, 1,248 of seven stages, of 50 each, 768 of 16 and 768 of 10: 85,704 in all. */
+/* 10 bytes, 416 entries of 8, 1,248 of seven stages, of 50 each, 768 of 16 and twice 768 of 10: 93,386 in all. */
 static void most_entries(void) {
     static const unsigned seven[] = {0, 0, 0, 7, 1, 1, 1, 1, 1, 1, 1, 0, 0, 0, 0, 0, 0, 0, 1, 1, 1, 1, 1, 1, 1};
     begin(WRITE_BOOK);
@@ -314,15 +370,20 @@ static void most_entries(void) {
     put_rows(&call, HM_STAGED_SECTION, seven, 1248);
     put_rows(&call, HM_SEQUENTIAL_SECTION, insulators, 768);
     put_rows(&call, HM_VARIABLES_SECTION, gauged, 768);
+    put_rows(&call, SIGMA_SECTION, known, 768);
     expect_status(11, "a book with all keys is too long");
+    spoil(SIGMA_SECTION, 767);
+    expect_status(12 | 3967 << 8, "the position of the last of all keys");
     spoil(HM_VARIABLES_SECTION, 767);
-    expect_status(12 | 3199 << 8, "the position of the last of all keys");
+    expect_status(12 | 3199 << 8, "the position of the last variables key");
 }
 
 void writing_cases(void) {
     draw_fixed();
     memset(&call, 0, sizeof call);
     written_out();
+    four_sections_written();
+    fifth_section_written();
     nothing_written();
     counted();
     read_out();

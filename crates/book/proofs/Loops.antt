@@ -10,9 +10,10 @@ use lib.ListN.{length, getD, take, drop, length-drop, length-take, drop-of-lengt
 use lib.Seq.{take-nil, take-take, getD-take}
 use Rattle.rules.specs.Numbers.{numbersOf}
 use Rattle.rules.specs.Book.{Walk, ends, broken, short, Kind, kinds, kindAt, variables, keyOf, keyFor, sameKey, sizeOf}
-use Rattle.rules.specs.Book.{shift, section, sections, entry}
+use Rattle.rules.specs.Book.{shift, section, sections, entry, always}
 use Rattle.rules.proofs.Bounded.{by-le}
 use Rattle.rules.proofs.Numbers.{numbers-drop, numbers-take}
+use Rattle.rules.proofs.SectionKinds.{always-kind}
 use Rattle.rules.proofs.Walks.{shift-zero, entry-ends, place, place-ends, place-broken, place-section}
 use Rattle.rules.proofs.Steps.{same-short, section-is, entries-done, entries-broken, entries-short, entries-next}
 use Rattle.rules.proofs.Steps.{sections-done, sections-broken, sections-short, sections-next}
@@ -20,7 +21,7 @@ use Rattle.entry.specs.Paper.{keyPaper}
 use Rattle.entry.specs.declared.Key.{Key}
 use Rattle.entry.proofs.AnyKind.{by-kind}
 use Rattle.book.specs.Places.{orElse, underFrom, sectionPlace, onward, atEnd, placeUnder, placeOf, heldPast}
-use Rattle.book.specs.Paper.{keyBetween, stretchPaper, seenOf, ReadTo, InSection, InBook}
+use Rattle.book.specs.Paper.{keyBetween, stretchPaper, seenOf, ReadTo, InSection, InBook, SectionsRead}
 use Rattle.book.specs.declared.Stretch.{Stretch}
 use Rattle.book.specs.declared.Stretch.the-variants.{Ends, Broken, Short}
 
@@ -41,10 +42,10 @@ module _ {w : Walk} {p : ℕ} (at : ℕ) (ws : List ℕ) (here : place w ≤ len
 
 -- what was read, made and taken apart
 module _ {w : Walk} {look : ℕ} where
-  read-ends : {p seen : ℕ} → ends p ≡ w → seen ≡ look → ReadTo w look (Ends p seen)
+  pub read-ends : {p seen : ℕ} → ends p ≡ w → seen ≡ look → ReadTo w look (Ends p seen)
   read-ends q f = record { comes = q; seen = f ∙ ap (λ (x : Walk). atEnd x (λ p. look)) q }
 
-  read-broken : {p : ℕ} → broken p ≡ w → ReadTo w look (Broken p)
+  pub read-broken : {p : ℕ} → broken p ≡ w → ReadTo w look (Broken p)
   read-broken q = record { comes = q; seen = ap (λ (x : Walk). atEnd x (λ p. look)) q }
 
   pub read-short : short ≡ w → ReadTo w look Short
@@ -151,25 +152,27 @@ module _ (k : Kind) (key ws : List ℕ) (some : 0 < length key) where
       go false e l = l
 
 -- in the section of a kind
-pub in-near : (kind severity letter column : ℕ) (ws : List ℕ)
-    → sectionPlace (kindAt kind) (keyFor (kindAt kind) severity letter column) ws ≤ length ws
-in-near kind severity letter column ws =
-    under-near (kindAt kind) (keyFor (kindAt kind) severity letter column) ws some (getD ws 0 0) 1
-  where
-    some : 0 < length (keyFor (kindAt kind) severity letter column)
-    some = by-kind (λ n k. 0 < length (keyFor k severity letter column)) (omega arith) (omega arith) (omega arith)
-        (λ n l. omega arith) kind
+module _ (kind severity letter column : ℕ) where
+  pub key-some : 0 < length (keyFor (kindAt kind) severity letter column)
+  key-some =
+      by-kind (λ n k. 0 < length (keyFor k severity letter column)) (omega arith) (omega arith) (omega arith)
+      (λ n l. omega arith) kind
+
+  pub in-near : (ws : List ℕ)
+      → sectionPlace (kindAt kind) (keyFor (kindAt kind) severity letter column) ws ≤ length ws
+  in-near ws =
+      under-near (kindAt kind) (keyFor (kindAt kind) severity letter column) ws key-some (getD ws 0 0) 1
 
 -- the place under a key, in a section that is there and in one that is not
 module _ (j : ℕ) (key : Kind → List ℕ) (ws : List ℕ) where
   pub place-at : (p : ℕ) → j < length kinds → ends p ≡ sections (take j kinds) ws
       → placeUnder j key ws ≡ onward p (sectionPlace (kindAt j) (key (kindAt j)) (drop p ws))
   unfolding placeUnder
-  place-at p h q = rw (lt-ltb j 4 h, ← q)
+  place-at p h q = rw (lt-ltb j 5 h, ← q)
 
-  place-none : length kinds ≤ j → placeUnder j key ws ≡ 0
+  pub place-none : length kinds ≤ j → placeUnder j key ws ≡ 0
   unfolding placeUnder
-  place-none h = rw (le-ltb j 4 h)
+  place-none h = rw (le-ltb j 5 h)
 
 -- the loop over the sections
 module _ {asked : ℕ} {key : Key} {ws : List ℕ} where
@@ -207,14 +210,21 @@ module _ {asked : ℕ} {key : Key} {ws : List ℕ} where
         let end = sections-done ks variables kind at ws (omega (arith, length-take asked kinds)) in
         rw e (sym (place-at asked (λ k. keyPaper k key) ws at m (sym (b .ahead (omega arith) m ∙ end))))
 
-    pub book-next : {size seen now : ℕ} → kind < length kinds → ends size ≡ part
+    -- the kind of one of the four
+    its-kind : kind < length always → getD always kind variables ≡ kindAt kind
+    its-kind h = always-kind kind (omega arith)
+
+    part-is : {w : Walk} → kind < length always → w ≡ part → w ≡ section (getD always kind variables) (drop at ws)
+    part-is h q = rw (its-kind h) q
+
+    pub book-next : {size seen now : ℕ} → kind < length always → ends size ≡ part
         → seen ≡ sectionPlace (kindAt kind) (keyPaper (kindAt kind) key) (drop at ws)
         → now ≡ heldPast kind asked held at seen → InBook asked key ws (kind + 1) (at + size) now
     book-next {size} {seen} h q f g =
         record {
           counted = omega arith;
           within = ends-near at ws (place-section (kindAt kind) (drop at ws)) (b .within) q;
-          reads = b .reads ∙ sections-next kinds variables kind at ws size h q;
+          reads = b .reads ∙ sections-next always variables kind at ws size h (part-is h q);
           ahead = go-on q;
           none = λ l. g ∙ rw (ne-eqb kind asked (λ e. omega arith)) (b .none (omega arith));
           behind =
@@ -224,14 +234,14 @@ module _ {asked : ℕ} {key : Key} {ws : List ℕ} where
               (λ m. g ∙ rw (ne-eqb kind asked (λ e. omega arith)) (b .behind m));
         }
 
-    pub book-broken : {p : ℕ} → kind < length kinds → broken p ≡ part
-        → ReadTo (sections kinds ws) (placeOf asked key ws) (Broken (at + p))
-    book-broken {p} h q = read-broken (sym (b .reads ∙ sections-broken kinds variables kind at ws p h q))
+    pub book-broken : {p : ℕ} → kind < length always → broken p ≡ part → SectionsRead asked key ws (Broken (at + p))
+    book-broken {p} h q = read-broken (sym (b .reads ∙ sections-broken always variables kind at ws p h (part-is h q)))
 
-    pub book-shorts : kind < length kinds → short ≡ part → ReadTo (sections kinds ws) (placeOf asked key ws) Short
-    book-shorts h q = read-short (sym (b .reads ∙ sections-short kinds variables kind at ws h q))
+    pub book-shorts : kind < length always → short ≡ part → SectionsRead asked key ws Short
+    book-shorts h q = read-short (sym (b .reads ∙ sections-short always variables kind at ws h (part-is h q)))
 
-    pub book-done : length kinds ≤ kind → ReadTo (sections kinds ws) (placeOf asked key ws) (Ends at held)
+    pub book-done : length always ≤ kind → SectionsRead asked key ws (Ends at held)
     book-done h =
-        read-ends (sym (b .reads ∙ sections-done kinds variables kind at ws h))
-        (by-le kind asked (λ m. b .none m ∙ sym (place-none asked (λ k. keyPaper k key) ws (omega arith))) (b .behind))
+        read-ends (sym (b .reads ∙ sections-done always variables kind at ws h))
+        (by-le (length always) asked (λ m. b .none (omega (arith, b .counted)) ∙ sym (rw (le-ltb asked 4 m)))
+        (λ m. b .behind (omega arith) ∙ sym (rw (lt-ltb asked 4 m))))

@@ -73,7 +73,7 @@ module _ (j severity letter column : ℕ) (book : List ℕ) (h : j < length kind
 
   look-up : lookUp j severity letter column ws ≡ foundAt k p ws
   unfolding lookUp placeUnder seekIn
-  look-up = rw (lt-ltb j 4 h) (go (sections (take j kinds) ws))
+  look-up = rw (lt-ltb j 5 h) (go (sections (take j kinds) ws))
     where
       go : (w : Walk)
           → fromEnd w (λ p. seekIn k key (drop p ws))
@@ -86,7 +86,7 @@ module _ (j severity letter column : ℕ) (book : List ℕ) (h : j < length kind
 
   under-near : p ≤ length ws
   unfolding placeUnder
-  under-near = rw (lt-ltb j 4 h) (go (sections (take j kinds) ws))
+  under-near = rw (lt-ltb j 5 h) (go (sections (take j kinds) ws))
     where
       onward-near : (p seen : ℕ) → seen ≤ length (drop p ws) → onward p seen ≤ length ws
       onward-near p zero l = omega arith

@@ -1,14 +1,16 @@
--- What the code's enums are on paper, and what its two loops keep. Definitions only.
-use Prim.Native.Nat.{ℕ, _-_, _≤_, _<_}
+-- What the code's enums are on paper, and what its loops keep. Definitions only.
+use Prim.Native.Nat.{ℕ, _+_, _-_, _*_, _≤_, _<_}
 use mathlib.Core.Path.{_≡_}
 use mathlib.Core.List.{List}
 use lib.ListN.{length, take, drop}
 use Rattle.rules.specs.Refusals.{Answer, refused, given, brokenBook}
-use Rattle.rules.specs.Book.{Kind, kinds, kindAt, keyOf, shift, section, sections}
+use Rattle.rules.specs.Numbers.{numbersOf}
+use Rattle.rules.specs.Book.{Kind, always, kinds, kindAt, keyOf, shift, section, sections, allSections}
 use Rattle.rules.specs.Book as paper
+use Rattle.rules.specs.Layout.{entryAt, sectionAt}
 use Rattle.entry.specs.Paper.{keyPaper}
 use Rattle.entry.specs.declared.Key.{Key}
-use Rattle.book.specs.Places.{orElse, underFrom, sectionPlace, atEnd, placeOf}
+use Rattle.book.specs.Places.{orElse, underFrom, sectionPlace, atEnd, placeOf, placeInFour}
 use Rattle.book.specs.declared.Stretch.{Stretch}
 use Rattle.book.specs.declared.Stretch.the-variants as stretch
 use Rattle.book.specs.declared.Whole.{Whole}
@@ -42,13 +44,22 @@ pub record ReadTo (reading : paper.Walk) (look : ℕ) (r : Stretch) : Type 0 whe
   pub comes : stretchPaper r ≡ reading
   pub seen : seenOf r ≡ atEnd reading (λ p. look)
 
--- of a section of a kind, and of the four sections, of which one is asked for
+-- of a section of a kind, of the four sections that every book has, and of the whole book; one section is asked for
 abbrev pub SectionRead : ℕ → Key → List ℕ → Stretch → Type 0
 SectionRead kind key ws r =
     ReadTo (section (kindAt kind) ws) (sectionPlace (kindAt kind) (keyPaper (kindAt kind) key) ws) r
 
 abbrev pub SectionsRead : ℕ → Key → List ℕ → Stretch → Type 0
-SectionsRead asked key ws r = ReadTo (sections kinds ws) (placeOf asked key ws) r
+SectionsRead asked key ws r = ReadTo (sections always ws) (placeInFour asked key ws) r
+
+abbrev pub BookRead : ℕ → Key → List ℕ → Stretch → Type 0
+BookRead asked key bytes r =
+    ReadTo (allSections (length bytes) (numbersOf bytes)) (placeOf asked key (numbersOf bytes)) r
+
+-- The four sections end at a place, and this one is held.
+pub record SectionsEnd (asked : ℕ) (key : Key) (ws : List ℕ) (at held : ℕ) : Type 0 where
+  pub reads : paper.ends at ≡ sections always ws
+  pub holds : held ≡ placeInFour asked key ws
 
 -- The loop over the entries of a section of n, before the i-th, which starts at a place.
 pub record InSection (k : Kind) (key ws : List ℕ) (n prev at seen i : ℕ) : Type 0 where
@@ -59,16 +70,34 @@ pub record InSection (k : Kind) (key ws : List ℕ) (n prev at seen i : ℕ) : T
   pub reads : section k ws ≡ shift at (paper.entries k (n - i) (keyBetween k prev at ws) (drop at ws))
   pub looks : sectionPlace k key ws ≡ orElse seen (underFrom k key (n - i) at ws)
 
--- The loop over the sections, before the one of a kind, which starts at a place.
+-- The loop over the four sections, before the one of a kind, which starts at a place.
 pub record InBook (asked : ℕ) (key : Key) (ws : List ℕ) (kind at held : ℕ) : Type 0 where
-  pub counted : kind ≤ length kinds
+  pub counted : kind ≤ length always
   pub within : at ≤ length ws
-  pub reads : sections kinds ws ≡ shift at (sections (drop kind kinds) (drop at ws))
+  pub reads : sections always ws ≡ shift at (sections (drop kind always) (drop at ws))
   -- up to the section asked for nothing is held, and after it what it holds
   pub ahead : kind ≤ asked → asked < length kinds
       → sections (take asked kinds) ws ≡ shift at (sections (drop kind (take asked kinds)) (drop at ws))
   pub none : kind ≤ asked → held ≡ 0
   pub behind : asked < kind → held ≡ placeOf asked key ws
+
+-- The loop over the entries from place `at` on by their sizes alone, before the i-th.
+pub record AtEntry (k : Kind) (ws : List ℕ) (at nth place i : ℕ) : Type 0 where
+  pub counted : i ≤ nth
+  pub stands : place ≡ at + entryAt k i (drop at ws)
+  pub near : place ≤ at + 200000 * i
+
+-- The loop over the sections by counts and sizes alone, before the one of a kind.
+pub record AtSection (ws : List ℕ) (j at kind : ℕ) : Type 0 where
+  pub counted : kind ≤ j
+  pub known : kind ≤ length kinds
+  pub stands : at ≡ sectionAt kinds kind ws
+  pub near : at ≤ 13107200000 * kind
+
+-- The loop that seeks a key by sizes alone, before the i-th of n entries, which starts at a place.
+pub record Seeking (k : Kind) (key ws : List ℕ) (n at i : ℕ) : Type 0 where
+  pub counted : i ≤ n
+  pub looks : sectionPlace k key ws ≡ underFrom k key (n - i) at ws
 
 abbrev pub wholePaper : Whole → Answer ℕ
 wholePaper (whole.Broken byte) = refused brokenBook byte

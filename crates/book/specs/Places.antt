@@ -8,7 +8,8 @@ use lib.ListN.{length, getD, take, drop}
 use Rattle.rules.specs.Refusals.{Answer, refused, given, noPlan}
 use Rattle.rules.specs.Numbers.{numbersOf}
 use Rattle.rules.specs.Book.{Walk, ends, broken, short, Kind, sizeOf, keyOf, sameKey, sections, kinds, kindAt}
-use Rattle.rules.specs.Book.{keyFor, checkBook, onSound}
+use Rattle.rules.specs.Book.{always, keyFor, checkBook, onSound}
+use Rattle.rules.specs.Layout.{sectionAt, sectionFrom}
 use Rattle.entry.specs.Paper.{keyPaper}
 use Rattle.entry.specs.declared.Key.{Key}
 
@@ -49,6 +50,16 @@ placeUnder j key ws =
 abbrev pub placeOf : ℕ → Key → List ℕ → ℕ
 placeOf j key ws = placeUnder j (λ k. keyPaper k key) ws
 
+-- .. by counts and sizes alone, whether or not the book is sound
+unfoldable pub placeLaid : ℕ → (Kind → List ℕ) → List ℕ → ℕ
+placeLaid j key ws =
+    cond (ltb j (length kinds))
+    (onward (sectionAt kinds j ws) (sectionPlace (kindAt j) (key (kindAt j)) (sectionFrom j ws))) 0
+
+-- .. if that is one of the four that every book has
+abbrev pub placeInFour : ℕ → Key → List ℕ → ℕ
+placeInFour j key ws = cond (ltb j (length always)) (placeOf j key ws) 0
+
 -- the place held, after a section of a kind that starts at a place
 abbrev pub heldPast : ℕ → ℕ → ℕ → ℕ → ℕ → ℕ
 heldPast kind asked held at seen = cond (eqb kind asked) (onward at seen) held
@@ -61,3 +72,8 @@ fromPlace p = cond (eqb p 0) (refused noPlan 0) (given p)
 unfoldable pub placeHeld : ℕ → ℕ → ℕ → ℕ → List ℕ → Answer ℕ
 placeHeld j severity letter column book =
     onSound (checkBook book) (fromPlace (placeUnder j (λ k. keyFor k severity letter column) (numbersOf book)))
+
+-- the same of a book that is not checked
+abbrev pub laidPlace : ℕ → ℕ → ℕ → ℕ → List ℕ → Answer ℕ
+laidPlace j severity letter column book =
+    fromPlace (placeLaid j (λ k. keyFor k severity letter column) (numbersOf book))

@@ -1,15 +1,17 @@
-// The plan book of document 01. Each section is checked as its own stretch of the book, and the entry under a key is
-// found on the way.
+// The plan book of document 01, with document 02's fifth section. Each section is checked as its own stretch of the
+// book, and the entry under a key is found on the way.
 ghost use mathlib.Core.Path.{_≡_};
 ghost use mathlib.Core.Bool.{cond};
-ghost use Prim.Native.Nat.{_+_, _≤_, _<_};
-ghost use lib.ListN.{length};
+ghost use Prim.Native.Nat.{_+_, _*_, _≤_, _<_};
+ghost use lib.ListN.{length, drop};
 ghost use Rattle.rules.specs.Refusals.{given};
 ghost use Rattle.rules.specs.Numbers.{numbersOf};
-ghost use Rattle.rules.specs.Book.{checkBook, onSound};
-ghost use Rattle.entry.specs.Paper.{walkPaper};
-ghost use Rattle.book.specs.Places.{orElse, underAt, heldPast, placeOf, placeHeld};
-ghost use Rattle.book.specs.Paper.{entryAfter, SectionRead, SectionsRead, wholePaper, bookPaper, foundPaper};
+ghost use Rattle.rules.specs.Book.{kinds, kindAt, checkBook, onSound};
+ghost use Rattle.rules.specs.Layout.{entryAt, sectionAt};
+ghost use Rattle.entry.specs.Paper.{walkPaper, keyPaper};
+ghost use Rattle.book.specs.Places.{orElse, underAt, heldPast, sectionPlace, placeOf, placeHeld, laidPlace};
+ghost use Rattle.book.specs.Paper.{entryAfter, SectionRead, SectionsRead, SectionsEnd, BookRead};
+ghost use Rattle.book.specs.Paper.{wholePaper, bookPaper, foundPaper};
 use entry::Key;
 use entry::Walk;
 
@@ -19,6 +21,9 @@ pub const NO_PLAN: u8 = 6;
 pub const BROKEN_BOOK: u8 = 12;
 
 pub const LARGEST_BOOK: usize = 32768;
+
+// How many sections every book has; the fifth it may have.
+const ALWAYS: usize = 4;
 
 // The entry at a place of a section, after the one that stands from prev up to it; the first has none before it.
 fn entry_at(kind: usize, part: &[u8], prev: usize, at: usize) -> Walk
@@ -99,14 +104,15 @@ fn held_past(kind: usize, asked: usize, held: usize, at: usize, seen: usize) -> 
     at + seen
 }
 
-// The four sections, each as its own part of the book; what stands under the key in the one that is asked for.
+// The four sections that every book has, each as its own part of the book; what stands under the key in the one that is
+// asked for.
 fn check_sections(asked: usize, key: Key, book: &[u8]) -> Stretch
     ensures { λ r. ⌜ SectionsRead asked key (numbersOf (now (book .entry))) r ⌝ }
 {
     let mut at = 0;
     let mut held = 0;
     let mut kind = 0;
-    while kind < entry::KINDS {
+    while kind < ALWAYS {
         let from = 2 * at;
         match check_section(kind, key, &book[from..]) {
             Stretch::Ends(size, seen) => {
@@ -125,6 +131,43 @@ fn check_sections(asked: usize, key: Key, book: &[u8]) -> Stretch
     Stretch::Ends(at, held)
 }
 
+// What follows the four sections, which end at a place: nothing, or the fifth section, with at least one entry.
+fn check_fifth(asked: usize, key: Key, book: &[u8], at: usize, held: usize) -> Stretch
+    requires { ⌜ SectionsEnd asked key (numbersOf (now book)) at held ⌝ }
+    ensures { λ r. ⌜ BookRead asked key (now (book .entry)) r ⌝ }
+{
+    let from = 2 * at;
+    if book.len() <= from {
+        return Stretch::Ends(at, held);
+    }
+    let part = &book[from..];
+    if numbers::count(part) == 0 {
+        return Stretch::Short;
+    }
+    if numbers::number(part, 0) == 0 {
+        return Stretch::Broken(at);
+    }
+    match check_section(entry::SIGMA, key, part) {
+        Stretch::Ends(size, seen) => {
+            let last = held_past(entry::SIGMA, asked, held, at, seen);
+            Stretch::Ends(at + size, last)
+        }
+        Stretch::Broken(p) => Stretch::Broken(at + p),
+        Stretch::Short => Stretch::Short,
+    }
+}
+
+// All sections of the book.
+fn check_all(asked: usize, key: Key, book: &[u8]) -> Stretch
+    ensures { λ r. ⌜ BookRead asked key (now (book .entry)) r ⌝ }
+{
+    match check_sections(asked, key, book) {
+        Stretch::Ends(at, held) => check_fifth(asked, key, book, at, held),
+        Stretch::Broken(p) => Stretch::Broken(p),
+        Stretch::Short => Stretch::Short,
+    }
+}
+
 // What one pass over the book finds: the byte at which it is broken, or that it is sound, with the place of the entry
 // asked for (0: none is).
 enum Whole {
@@ -140,7 +183,7 @@ fn check_whole(asked: usize, key: Key, book: &[u8]) -> Whole
     if LARGEST_BOOK < len {
         return Whole::Broken(LARGEST_BOOK);
     }
-    match check_sections(asked, key, book) {
+    match check_all(asked, key, book) {
         Stretch::Ends(p, held) => {
             let end = 2 * p;
             if end < len {
@@ -199,4 +242,94 @@ pub fn find(kind: usize, severity: u32, letter: u8, column: u32, book: &[u8]) ->
             Found::At(held)
         }
     }
+}
+
+// Where the entry starts that is nth of those from place `at` on.
+fn entry_from(kind: usize, book: &[u8], at: usize, nth: usize) -> usize
+    requires { ⌜ (at ≤ 100000000000) × (nth < 65536) ⌝ }
+    ensures { λ r. ⌜ (r ≡ at + entryAt (kindAt kind) nth (drop at (numbersOf (now (book .entry)))))
+        × (r ≤ at + 200000 * nth) ⌝ }
+{
+    let key = entry::key_len(kind);
+    let mut place = at;
+    let mut i = 0;
+    while i < nth {
+        let after = numbers::number(book, place + key);
+        place += entry::entry_size(kind, after as u16);
+        i += 1;
+    }
+    place
+}
+
+// Where the section at place j of the order starts, by counts and sizes alone; from the sixth on, where the fifth ends.
+pub fn section_place(j: usize, book: &[u8]) -> usize
+    ensures { λ r. ⌜ (r ≡ sectionAt kinds j (numbersOf (now (book .entry)))) × (r ≤ 65536000000) ⌝ }
+{
+    let mut at = 0;
+    let mut kind = 0;
+    while kind < j {
+        if entry::KINDS <= kind {
+            return at;
+        }
+        let count = numbers::number(book, at) as usize;
+        at = entry_from(kind, book, at + 1, count);
+        kind += 1;
+    }
+    at
+}
+
+// Where the entry of a section starts that is nth from its first, by counts and sizes alone.
+pub fn entry_place(kind: usize, book: &[u8], nth: u16) -> usize
+    ensures { λ r. ⌜ r ≡ sectionAt kinds kind (numbersOf (now (book .entry))) + 1
+        + entryAt (kindAt kind) nth
+        (drop (sectionAt kinds kind (numbersOf (now (book .entry))) + 1) (numbersOf (now (book .entry)))) ⌝ }
+{
+    let first = section_place(kind, book) + 1;
+    entry_from(kind, book, first, nth as usize)
+}
+
+// The first entry of a section under the key (0: none is), by the count and sizes alone.
+fn seek(kind: usize, key: Key, part: &[u8]) -> usize
+    ensures { λ r. ⌜ r ≡ sectionPlace (kindAt kind) (keyPaper (kindAt kind) key) (numbersOf (now (part .entry))) ⌝ }
+{
+    let entries = numbers::number(part, 0);
+    let end = numbers::count(part);
+    let mut at = 1;
+    let mut i = 0;
+    while i < entries {
+        if end <= at {
+            return 0;
+        }
+        let from = 2 * at;
+        if entry::is_under(kind, key, &part[from..]) {
+            return at;
+        }
+        at += entry::size_at(kind, &part[from..]);
+        i += 1;
+    }
+    0
+}
+
+// As `find`, of a book that was checked before: that is not done again, so what it answers of a broken one is no 12.
+pub fn find_again(kind: usize, severity: u32, letter: u8, column: u32, book: &[u8]) -> Found
+    ensures { λ r. ⌜ foundPaper r ≡ laidPlace kind severity letter column (now (book .entry)) ⌝ }
+{
+    if entry::KINDS <= kind {
+        return Found::Refused(NO_PLAN, 0);
+    }
+    let at = section_place(kind, book);
+    if numbers::count(book) <= at {
+        return Found::Refused(NO_PLAN, 0);
+    }
+    let key = Key {
+        severity,
+        letter,
+        column,
+    };
+    let from = 2 * at;
+    let seen = seek(kind, key, &book[from..]);
+    if seen == 0 {
+        return Found::Refused(NO_PLAN, 0);
+    }
+    Found::At(at + seen)
 }

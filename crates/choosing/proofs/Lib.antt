@@ -1,4 +1,5 @@
 mod Beside
+mod Joined
 pub mod OneResult
 mod Sizes
 pub mod Supplies

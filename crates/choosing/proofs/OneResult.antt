@@ -7,12 +7,13 @@ use Rattle.rules.specs.Refusals.{Answer, refused, given}
 use Rattle.rules.proofs.Answers.{read-back}
 use Rattle.plans.specs.declared.Outcome.{Outcome}
 use Rattle.plans.proofs.OneResult.{outcomeBack, outcome-back}
-use Rattle.entry.proofs.OneResult.{stagedBack, sequentialBack, variablesBack}
+use Rattle.entry.proofs.OneResult.{stagedBack, sequentialBack, variablesBack, sidesBack}
 use Rattle.choosing.specs.declared.Refusal.{Refusal}
 use Rattle.choosing.specs.declared.StagedPlanned.{StagedPlanned}
 use Rattle.choosing.specs.declared.SequentialPlanned.{SequentialPlanned}
 use Rattle.choosing.specs.declared.VariablesPlanned.{VariablesPlanned}
-use Rattle.choosing.specs.Paper.{refusalPaper, stagedPlanned, sequentialPlanned, variablesPlanned}
+use Rattle.choosing.specs.declared.SidesPlanned.{SidesPlanned}
+use Rattle.choosing.specs.Paper.{refusalPaper, stagedPlanned, sequentialPlanned, variablesPlanned, sidesPlanned}
 
 refusalBack : Answer (Unit {0}) → Refusal
 refusalBack (refused n p) = record { number = n; place = p }
@@ -54,3 +55,8 @@ variables-planned-one =
     })
     (λ a. ap (λ (o : Outcome). record { answer = o; letter = a .letter; plan = a .plan })
     (outcome-back (a .answer) _))
+
+pub sides-planned-one : (a b : SidesPlanned) → sidesPlanned a ≡ sidesPlanned b → a ≡ b
+sides-planned-one =
+    read-back sidesPlanned (λ b. record { answer = outcomeBack (b .answer); plan = sidesBack (b .plan) })
+    (λ a. ap (λ (o : Outcome). record { answer = o; plan = a .plan }) (outcome-back (a .answer) _))

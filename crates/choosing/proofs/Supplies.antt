@@ -3,6 +3,7 @@
 -- Assumes nothing.
 use Prim.Native.Nat.{ℕ, _≤_, _<_}
 use mathlib.Core.Path.{_≡_, refl, sym, ap, _∙_}
+use mathlib.Core.Bool.{false, false≢true}
 use mathlib.Core.List.{List}
 use borrow.Author.Tests.{eq-eqb, lt-ltb, le-ltb}
 use lib.ListN.{length, drop}
@@ -20,7 +21,7 @@ use Rattle.rules.proofs.Checks.{checks-alike, asked-kept, asked-passed, asked-l
 use Rattle.rules.proofs.EntryLaws.{lot-passes, lot-given, sound-given}
 use Rattle.book.specs.Places.{placeHeld}
 use Rattle.book.proofs.PlaceLaws.{on-refused, on-place, place-near}
-use Rattle.choosing.specs.Paper.{placeFor}
+use Rattle.choosing.specs.Paper.{SoundIf, placeFor}
 
 -- a refusal after the book's own is the same for each entry
 pub refused-alike : {A B : Type 0} (c : Checked) (n p m q : ℕ)
@@ -28,6 +29,10 @@ pub refused-alike : {A B : Type 0} (c : Checked) (n p m q : ℕ)
     → _≡_ {A = Answer B} (refused m q) (onSound c (refused n p))
 refused-alike sound n p m q e = cc
 refused-alike (brokenAt byte) n p m q e = cc
+
+-- nothing is said of a book that was not checked
+pub unchecked : (book : List ℕ) → SoundIf false book
+unchecked book e = absurd (false≢true e)
 
 -- a book that was checked is not checked again
 pub checked-once : {A B : Type 0} (c : Checked) (a : Answer A) (f : A → Answer B)

@@ -6,14 +6,19 @@ ghost use Rattle.rules.specs.Codes.{reduced};
 ghost use Rattle.rules.specs.Staged.{stagesOf, totalSize};
 ghost use Rattle.rules.specs.Book.{checkBook, onSound};
 ghost use Rattle.rules.specs.Entries.{singlePlan, curtailedPlan, stagedPlan, sequentialPlan, variablesPlan, lettered};
+ghost use Rattle.rules.specs.Entries.{readingsPlan, sidesPlan};
 ghost use Rattle.plans.specs.Paper.{askedPaper, beside, itself, zeroPlan, plannedPaper};
-ghost use Rattle.entry.specs.Paper.{stagedPaper, noStages, sequentialPaper, variablesPaper};
-ghost use Rattle.choosing.specs.Paper.{refusalPaper, suppliedPaper, placeFor, withoutLetter};
+ghost use Rattle.entry.specs.Paper.{stagedPaper, noStages, sequentialPaper, variablesPaper, sidesPaper};
+ghost use Rattle.book.specs.Paper.{foundPaper};
+ghost use Rattle.book.specs.Places.{placeHeld};
+ghost use Rattle.choosing.specs.Paper.{refusalPaper, SoundIf, suppliedPaper, placeFor, withoutLetter};
 ghost use Rattle.choosing.specs.Paper.{zeroSequential, zeroVariables};
-ghost use Rattle.choosing.specs.Paper.{stagedPlanned, sequentialPlanned, variablesPlanned};
+ghost use Rattle.choosing.specs.Paper.{stagedPlanned, sequentialPlanned, variablesPlanned, sidesPlanned};
+ghost use Rattle.choosing.specs.Paper.{sectionIf, zeroSides, planAlone, isGiven, sameN, joinSides};
 use book::BookAnswer;
 use book::Found;
 use entry::SequentialPlan;
+use entry::SidesPlan;
 use entry::StagedPlan;
 use entry::VariablesPlan;
 use plans::Asked;
@@ -47,8 +52,28 @@ enum Supplied {
     At(u8, usize),
 }
 
-// "A plan is looked up by severity (sections 2 to 4), Table 1 letter and column": one way for every kind.
-fn look_up(lot: Asked, kind: usize, book: &[u8]) -> Supplied
+// The place of the entry under a key; a book that is known to be sound is not checked again.
+fn find_place(
+    checked: bool,
+    kind: usize,
+    severity: u32,
+    letter: u8,
+    column: u32,
+    book: &[u8],
+) -> Found
+    requires { ⌜ SoundIf checked (now book) ⌝ }
+    ensures { λ r. ⌜ foundPaper r ≡ placeHeld kind severity letter column (now (book .entry)) ⌝ }
+{
+    if checked {
+        return book::find_again(kind, severity, letter, column, book);
+    }
+    book::find(kind, severity, letter, column, book)
+}
+
+// "A plan is looked up by severity (sections 2 to 4), Table 1 letter and column", in the fifth as in the fourth: one
+// way for every kind.
+fn look_up(checked: bool, lot: Asked, kind: usize, book: &[u8]) -> Supplied
+    requires { ⌜ SoundIf checked (now book) ⌝ }
     ensures { λ r. ⌜ suppliedPaper r ≡ placeFor kind (askedPaper lot) (now (book .entry)) ⌝ }
 {
     match plans::asked_letter(lot) {
@@ -56,7 +81,8 @@ fn look_up(lot: Asked, kind: usize, book: &[u8]) -> Supplied
             let first = first_refusal(book, number, place);
             Supplied::Refused(first.number, first.place)
         }
-        LetterAnswer::Given(letter) => match book::find(
+        LetterAnswer::Given(letter) => match find_place(
+            checked,
             kind,
             lot.severity,
             letter,
@@ -75,7 +101,7 @@ fn reduced_plan(lot: Asked, book: &[u8]) -> SinglePlanned
     ensures { λ r. ⌜ plannedPaper r
         ≡ beside zeroPlan itself (singlePlan (askedPaper lot) (now (book .entry))) ⌝ }
 {
-    match look_up(lot, entry::REDUCED, book) {
+    match look_up(false, lot, entry::REDUCED, book) {
         Supplied::Refused(number, place) => plans::unplanned(number, place),
         Supplied::At(letter, place) => {
             let from = 2 * place;
@@ -187,7 +213,7 @@ pub fn staged_plan(lot: Asked, book: &[u8]) -> StagedPlanned
         ≡ beside (withoutLetter noStages) itself
         (lettered (askedPaper lot) (stagedPlan (askedPaper lot) (now (book .entry)))) ⌝ }
 {
-    match look_up(lot, entry::STAGED, book) {
+    match look_up(false, lot, entry::STAGED, book) {
         Supplied::Refused(number, place) => staged_unplanned(number, place),
         Supplied::At(letter, place) => {
             let from = 2 * place;
@@ -232,7 +258,7 @@ pub fn sequential_plan(lot: Asked, book: &[u8]) -> SequentialPlanned
         ≡ beside (withoutLetter zeroSequential) itself
         (lettered (askedPaper lot) (sequentialPlan (askedPaper lot) (now (book .entry)))) ⌝ }
 {
-    match look_up(lot, entry::SEQUENTIAL, book) {
+    match look_up(false, lot, entry::SEQUENTIAL, book) {
         Supplied::Refused(number, place) => sequential_unplanned(number, place),
         Supplied::At(letter, place) => {
             let from = 2 * place;
@@ -249,7 +275,7 @@ pub fn sequential_plan(lot: Asked, book: &[u8]) -> SequentialPlanned
     }
 }
 
-pub fn no_readings() -> VariablesPlan
+fn no_readings() -> VariablesPlan
     ensures { λ r. ⌜ variablesPaper r ≡ zeroVariables ⌝ }
 {
     VariablesPlan { n: 0, k: 0 }
@@ -265,13 +291,24 @@ fn variables_unplanned(number: u8, place: usize) -> VariablesPlanned
     }
 }
 
-// The variables plan of a lot: n is not more than the lot.
-pub fn variables_plan(lot: Asked, book: &[u8]) -> VariablesPlanned
+// The section of a method's plans.
+fn section_for(known: bool) -> usize
+    ensures { λ r. ⌜ r ≡ sectionIf known ⌝ }
+{
+    if known {
+        return entry::SIGMA;
+    }
+    entry::VARIABLES
+}
+
+// The plan for readings, by the s method or with a known spread: n is not more than the lot.
+fn readings_plan(checked: bool, known: bool, lot: Asked, book: &[u8]) -> VariablesPlanned
+    requires { ⌜ SoundIf checked (now book) ⌝ }
     ensures { λ r. ⌜ variablesPlanned r
         ≡ beside (withoutLetter zeroVariables) itself
-        (lettered (askedPaper lot) (variablesPlan (askedPaper lot) (now (book .entry)))) ⌝ }
+        (lettered (askedPaper lot) (readingsPlan (sectionIf known) (askedPaper lot) (now (book .entry)))) ⌝ }
 {
-    match look_up(lot, entry::VARIABLES, book) {
+    match look_up(checked, lot, section_for(known), book) {
         Supplied::Refused(number, place) => variables_unplanned(number, place),
         Supplied::At(letter, place) => {
             let from = 2 * place;
@@ -286,4 +323,109 @@ pub fn variables_plan(lot: Asked, book: &[u8]) -> VariablesPlanned
             }
         }
     }
+}
+
+// The variables plan of a lot.
+pub fn variables_plan(lot: Asked, book: &[u8]) -> VariablesPlanned
+    ensures { λ r. ⌜ variablesPlanned r
+        ≡ beside (withoutLetter zeroVariables) itself
+        (lettered (askedPaper lot) (variablesPlan (askedPaper lot) (now (book .entry)))) ⌝ }
+{
+    readings_plan(false, false, lot, book)
+}
+
+// Is there a plan for two limits; all of it 0 beside a refusal.
+pub struct SidesPlanned {
+    pub answer: Outcome,
+    pub plan: SidesPlan,
+}
+
+pub fn no_sides() -> SidesPlan
+    ensures { λ r. ⌜ sidesPaper r ≡ zeroSides ⌝ }
+{
+    SidesPlan {
+        n: 0,
+        upper_k: 0,
+        lower_k: 0,
+    }
+}
+
+fn sides_unplanned(number: u8, place: usize) -> SidesPlanned
+    ensures { λ r. ⌜ sidesPlanned r ≡ beside zeroSides itself (refused number place) ⌝ }
+{
+    SidesPlanned {
+        answer: Outcome::Refused(number, place),
+        plan: no_sides(),
+    }
+}
+
+// "6 when the two sides' entries differ in n".
+fn same_n(upper: VariablesPlan, lower: VariablesPlan) -> SidesPlanned
+    ensures { λ r. ⌜ sidesPlanned r
+        ≡ beside zeroSides itself (sameN (variablesPaper upper) (variablesPaper lower)) ⌝ }
+{
+    if upper.n != lower.n {
+        return sides_unplanned(NO_PLAN, 0);
+    }
+    SidesPlanned {
+        answer: Outcome::Given,
+        plan: SidesPlan {
+            n: upper.n,
+            upper_k: upper.k,
+            lower_k: lower.k,
+        },
+    }
+}
+
+// Both sides; of two refusals "the lowest number".
+fn join(upper: VariablesPlanned, lower: VariablesPlanned) -> SidesPlanned
+    ensures { λ r. ⌜ sidesPlanned r ≡ beside zeroSides itself (joinSides (planAlone upper) (planAlone lower)) ⌝ }
+{
+    let first = upper.answer;
+    let second = lower.answer;
+    match first {
+        Outcome::Refused(number, place) => match second {
+            Outcome::Refused(other, at) => {
+                if other < number {
+                    return sides_unplanned(other, at);
+                }
+                sides_unplanned(number, place)
+            }
+            Outcome::Given => sides_unplanned(number, place),
+        },
+        Outcome::Given => match second {
+            Outcome::Refused(number, place) => sides_unplanned(number, place),
+            Outcome::Given => same_n(upper.plan, lower.plan),
+        },
+    }
+}
+
+// Only a sound book gives a plan, so that where this is true it was checked.
+fn is_given(r: VariablesPlanned) -> bool
+    ensures { λ b. ⌜ b ≡ isGiven (planAlone r) ⌝ }
+{
+    let answer = r.answer;
+    match answer {
+        Outcome::Refused(_, _) => false,
+        Outcome::Given => true,
+    }
+}
+
+// The plan for two limits: the lot is asked about under its upper column, and under a lower one.
+pub fn sides_plan(known: bool, lot: Asked, lower: u32, book: &[u8]) -> SidesPlanned
+    ensures { λ r. ⌜ sidesPlanned r
+        ≡ beside zeroSides itself
+        (sidesPlan (sectionIf known) (askedPaper lot) lower (now (book .entry))) ⌝ }
+{
+    let upper = readings_plan(false, known, lot, book);
+    if lower == lot.column {
+        return join(upper, upper);
+    }
+    let under = Asked {
+        severity: lot.severity,
+        size: lot.size,
+        level: lot.level,
+        column: lower,
+    };
+    join(upper, readings_plan(is_given(upper), known, under, book))
 }

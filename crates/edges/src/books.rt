@@ -1,4 +1,5 @@
-// Document 02, T-03: books written from rows, their entries counted and shown. Lent memory is 255 throughout before.
+// Document 02, T-03 and T-07: books written from rows, their entries counted and shown. Lent memory is 255 throughout
+// before.
 use super::BOOK;
 use super::say;
 use super::say_number;
@@ -8,12 +9,15 @@ use showing::Counted;
 use showing::EntryAnswer;
 use writing::Written;
 
-// A row of each kind at column 10, the staged one with 9,999 past its five stages; and the last row once more.
+// A row of each of four kinds at column 10, the staged one with 9,999 past its five stages; and the last row once more.
 const ROWS: [u8; 94] = *b"\x08\0\x0a\0\x50\0\x02\0\
     \0\0\x0a\0\x0a\0\x05\0\x03\0\x03\0\x03\0\x03\0\x03\0\x0f\x27\x0f\x27\
     \xff\xff\0\0\0\0\x01\0\x03\0\x0f\x27\x0f\x27\x02\0\x03\0\x03\0\x03\0\x04\0\x0f\x27\x0f\x27\
     \0\0\x0a\0\x0a\0\xd6\x06\xc7\x08\x62\x25\x62\0\x09\0\
     \0\0\x0a\0\x0a\0\x03\0\xac\x0d\0\0\x0a\0\x0a\0\x03\0\xac\x0d";
+
+// A sigma plan, under the key of the variables plan.
+const SIGMA: [u8; 10] = *b"\0\0\x0a\0\x0a\0\x04\0\xad\x0d";
 
 // All that lent memory holds.
 fn say_numbers(bytes: &[u8]) {
@@ -44,14 +48,14 @@ fn say_written(answer: Written, out: &[u8]) {
 }
 
 fn no_entries() {
-    say(b"four empty lists: ");
+    say(b"five empty lists: ");
     let mut out = [255u8; 10];
-    let answer = sentencing::write_book(b"", b"", b"", b"", &mut out);
+    let answer = sentencing::write_book(b"", b"", b"", b"", b"", &mut out);
     say_written(answer, &out);
 }
 
 // One row for each of the first three lists, and the rest for the variables plans.
-fn written(case: &[u8], rows: &[u8], out: &mut [u8]) {
+fn written<'a>(case: &[u8], rows: &'a [u8], sigma: &'a [u8], out: &mut [u8]) {
     say(case);
     if 74 <= rows.len() {
         let answer = sentencing::write_book(
@@ -59,6 +63,7 @@ fn written(case: &[u8], rows: &[u8], out: &mut [u8]) {
             &rows[8..58],
             &rows[58..74],
             &rows[74..],
+            sigma,
             out,
         );
         say_written(answer, out);
@@ -82,6 +87,7 @@ fn counted(case: &[u8], book: &[u8]) {
     say_count(book, 2);
     say_count(book, 3);
     say_count(book, 4);
+    say_count(book, 5);
     say(b"\n");
 }
 
@@ -100,21 +106,21 @@ fn shown(case: &[u8], book: &[u8], section: u32, nth: u32, row: &mut [u8]) {
 // The rows written, and refused; the book that fills its room.
 fn books() -> [u8; 80] {
     let mut out = [255u8; 82];
-    written(b"a row of each kind: ", &ROWS[..84], &mut out);
+    written(b"a row of four kinds: ", &ROWS[..84], b"", &mut out);
     let mut book = [255u8; 80];
-    written(b"room for 80 bytes: ", &ROWS[..84], &mut book);
+    written(b"room for 80 bytes: ", &ROWS[..84], b"", &mut book);
     let mut short = [255u8; 79];
-    written(b"room for 79 bytes: ", &ROWS[..84], &mut short);
+    written(b"room for 79 bytes: ", &ROWS[..84], b"", &mut short);
     let mut high = ROWS;
     high[72] = 12;
-    written(b"and At 12: ", &high[..84], &mut short);
-    written(b"half of K: ", &ROWS[..83], &mut out);
-    written(b"the last key twice: ", &ROWS, &mut out);
+    written(b"and At 12: ", &high[..84], b"", &mut short);
+    written(b"half of K: ", &ROWS[..83], b"", &mut out);
+    written(b"the last key twice: ", &ROWS, b"", &mut out);
     book
 }
 
 fn entries(book: &[u8]) {
-    counted(b"entries in sections 0 to 4:", book);
+    counted(b"entries in sections 0 to 5:", book);
     let mut row = [255u8; 52];
     shown(b"the staged entry: ", book, 1, 0, &mut row);
     shown(b"a second one: ", book, 1, 1, &mut row);
@@ -126,8 +132,18 @@ fn entries(book: &[u8]) {
     shown(b"its third of variables: ", &BOOK, 3, 2, &mut five);
 }
 
+// The rows and the sigma plan, written and read back.
+fn five_sections() {
+    let mut book = [255u8; 92];
+    written(b"a row of each kind: ", &ROWS[..84], &SIGMA, &mut book);
+    counted(b"entries in its sections:", &book);
+    let mut row = [255u8; 12];
+    shown(b"the sigma entry: ", &book, 4, 0, &mut row);
+}
+
 pub(crate) fn all() {
     no_entries();
     let book = books();
     entries(&book);
+    five_sections();
 }

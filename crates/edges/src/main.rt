@@ -1,8 +1,9 @@
 // Every case of document 01's 'Worked at the edges' run through the public entries, each printed with its answer, and
-// cases of document 02, T-01 to T-05. (lotlog's listing is run by the program lotlog.)
+// cases of document 02, T-01 to T-05 and T-07. (lotlog's listing is run by the program lotlog.)
 mod books;
 mod curtailed;
 mod fractions;
+mod limits;
 mod stages;
 
 use closing::Offered;
@@ -431,4 +432,5 @@ fn main() {
     stages::all();
     books::all();
     curtailed::all();
+    limits::all();
 }

@@ -1,5 +1,5 @@
--- What holds of a kind by its number: any number from 3 on is that of the last kind. And a table that is a match: what
--- an arm gives at its key, and what the last one gives past the listed keys.
+-- What holds of a kind by its number: any number from 3 on is that of a kind laid out as the fourth. And a table that
+-- is a match: what an arm gives at its key, and what the last one gives past the listed keys.
 -- Assumes nothing.
 use Prim.Native.Nat.{ℕ, zero, suc, _≤_, _<_, zero-le}
 use mathlib.Core.Path.{_≡_, refl, sym}
@@ -15,7 +15,8 @@ by-kind P a b c d zero = a
 by-kind P a b c d (suc zero) = b
 by-kind P a b c d (suc (suc zero)) = c
 by-kind P a b c d (suc (suc (suc zero))) = d 3 (omega arith)
-by-kind P a b c d (suc (suc (suc (suc n)))) = d (suc (suc (suc (suc n)))) (omega arith)
+by-kind P a b c d (suc (suc (suc (suc zero)))) = d 4 (omega arith)
+by-kind P a b c d (suc (suc (suc (suc (suc n))))) = d (suc (suc (suc (suc (suc n))))) (omega arith)
 
 -- every kind after the first has a key of three
 pub key-three : (n : ℕ) → (n ≡ 0 → ⊥) → 3 ≡ kindAt n .key
@@ -69,6 +70,6 @@ pub ranges-last : (x : Range) (kind i : ℕ) → None 3 kind → x ≡ getD (var
     → x ≡ getD (kindAt kind .ranges) i anything
 ranges-last x kind i h q = rw (last-kind kind h) q
 
--- a variables entry has five numbers
+-- an entry of variables or sigma has five numbers
 pub size-last : (kind after : ℕ) → None 3 kind → (5 ≡ kindAt kind .size after) × (5 < 200000)
 size-last kind after h = rw (last-kind kind h) (refl, omega arith)

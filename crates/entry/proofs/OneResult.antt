@@ -5,12 +5,14 @@ use Rattle.rules.specs.Book as paper
 use Rattle.rules.specs.Staged as staged
 use Rattle.rules.specs.Sequential as sequential
 use Rattle.rules.specs.Variables as variables
+use Rattle.rules.specs.Limits as limits
 use Rattle.rules.proofs.Answers.{read-back}
-use Rattle.entry.specs.Paper.{walkPaper, reducedPaper, stagedPaper, sequentialPaper, variablesPaper}
+use Rattle.entry.specs.Paper.{walkPaper, reducedPaper, stagedPaper, sequentialPaper, variablesPaper, sidesPaper}
 use Rattle.entry.specs.declared.ReducedSingle.{ReducedSingle}
 use Rattle.entry.specs.declared.StagedPlan.{StagedPlan}
 use Rattle.entry.specs.declared.SequentialPlan.{SequentialPlan}
 use Rattle.entry.specs.declared.VariablesPlan.{VariablesPlan}
+use Rattle.entry.specs.declared.SidesPlan.{SidesPlan}
 use Rattle.entry.specs.declared.Walk.{Walk}
 use Rattle.entry.specs.declared.Walk.the-variants.{Ends, Broken, Short}
 
@@ -41,6 +43,9 @@ sequentialBack p = record { ha = p .hA; hr = p .hR; g = p .g; nt = p .nt; «at_n
 abbrev pub variablesBack : variables.VariablesPlan → VariablesPlan
 variablesBack p = record { n = p .n; k = p .k }
 
+abbrev pub sidesBack : limits.SidesPlan → SidesPlan
+sidesBack p = record { n = p .n; «upper_k» = p .upperK; «lower_k» = p .lowerK }
+
 pub staged-one : (a b : StagedPlan) → stagedPaper a ≡ stagedPaper b → a ≡ b
 staged-one = read-back stagedPaper stagedBack (λ a. refl)
 
@@ -49,3 +54,6 @@ sequential-one = read-back sequentialPaper sequentialBack (λ a. refl)
 
 pub variables-one : (a b : VariablesPlan) → variablesPaper a ≡ variablesPaper b → a ≡ b
 variables-one = read-back variablesPaper variablesBack (λ a. refl)
+
+pub sides-one : (a b : SidesPlan) → sidesPaper a ≡ sidesPaper b → a ≡ b
+sides-one = read-back sidesPaper sidesBack (λ a. refl)

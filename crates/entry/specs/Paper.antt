@@ -10,10 +10,12 @@ use Rattle.rules.specs.Book.{Kind, kindAt, sizeOf, keyOf, keyFor, rises, number
 use Rattle.rules.specs.Staged as staged
 use Rattle.rules.specs.Sequential as sequential
 use Rattle.rules.specs.Variables as variables
+use Rattle.rules.specs.Limits as limits
 use Rattle.entry.specs.declared.ReducedSingle.{ReducedSingle}
 use Rattle.entry.specs.declared.StagedPlan.{StagedPlan}
 use Rattle.entry.specs.declared.SequentialPlan.{SequentialPlan}
 use Rattle.entry.specs.declared.VariablesPlan.{VariablesPlan}
+use Rattle.entry.specs.declared.SidesPlan.{SidesPlan}
 use Rattle.entry.specs.declared.Key.{Key}
 use Rattle.entry.specs.declared.Walk.{Walk}
 use Rattle.entry.specs.declared.Walk.the-variants.{Ends, Broken, Short}
@@ -30,6 +32,9 @@ sequentialPaper p = record { hA = p .ha; hR = p .hr; g = p .g; nt = p .nt; atNt 
 
 abbrev pub variablesPaper : VariablesPlan → variables.VariablesPlan
 variablesPaper p = record { n = p .n; k = p .k }
+
+abbrev pub sidesPaper : SidesPlan → limits.SidesPlan
+sidesPaper p = record { n = p .n; upperK = p .«upper_k»; lowerK = p .«lower_k» }
 
 abbrev pub rangePaper : Range → paper.Range
 rangePaper r = record { low = r .0; high = r .1 }

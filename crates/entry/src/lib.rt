@@ -1,4 +1,4 @@
-// One entry of a plan book, of each of the four kinds: its key, its numbers, and the plan that it holds.
+// One entry of a plan book, of each of the five kinds: its key, its numbers, and the plan that it holds.
 ghost use mathlib.Core.Path.{_≡_};
 ghost use Prim.Native.Nat.{_≤_, _<_};
 ghost use lib.ListN.{length};
@@ -14,8 +14,8 @@ ghost use Rattle.entry.specs.Paper.{reducedPaper, stagedPaper, sequentia
 mod keeping;
 mod ranges;
 
-// The kinds of section, in their order in the book.
-pub const KINDS: usize = 4;
+// The kinds of section, in their order in the book; the fifth is laid out as the fourth.
+pub const KINDS: usize = 5;
 
 pub const REDUCED: usize = 0;
 
@@ -24,6 +24,8 @@ pub const STAGED: usize = 1;
 pub const SEQUENTIAL: usize = 2;
 
 pub const VARIABLES: usize = 3;
+
+pub const SIGMA: usize = 4;
 
 // A reduced single, before it is cut to the lot.
 pub struct ReducedSingle {
@@ -52,6 +54,13 @@ pub struct SequentialPlan {
 pub struct VariablesPlan {
     pub n: u16,
     pub k: u16,
+}
+
+// n, and a K for each side; for one limit both are its own.
+pub struct SidesPlan {
+    pub n: u16,
+    pub upper_k: u16,
+    pub lower_k: u16,
 }
 
 // What an entry is looked up by; a reduced single has no severity in its key.

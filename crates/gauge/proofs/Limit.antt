@@ -1,7 +1,7 @@
--- The range of a limit, as signed numbers are compared, and a limit in range plus 1,000.
+-- The range of a limit, as signed numbers are compared, a limit in range plus 1,000, and the test of two limits.
 -- Assumes nothing.
 use Prim.Native.Nat.{suc, _+_, _-_, _≤_}
-use mathlib.Core.Path.{_≡_, refl}
+use mathlib.Core.Path.{_≡_, refl, ap}
 use mathlib.Core.Bool.{true, false}
 use native.Mathlib.Omega.{arith}
 use borrow.Author.Tests.{ltb-true, ltb-false, leb-true, le-ltb, le-leb, lt-leb}
@@ -9,10 +9,12 @@ use lib.Dec.{T, leb}
 use lib.IntN.{ℤ, pos, negsuc, natAbs, _+ℤ_, _-ℤ_}
 use lib.Signed.{leZ, ltZ, nonNeg}
 use mir.Syntax.{w32}
-use mir.Val.{SFits}
+use mir.Val.{SFits, toZ, ofZ}
+use mir.ValLaws.{toZ-ofZ}
 use Rattle.rules.specs.Variables.{inGauge}
+use Rattle.rules.specs.Limits.{both, limitsIn}
 use Rattle.rules.proofs.Diff.{as-difference}
-use Rattle.rules.proofs.Bools.{and-left}
+use Rattle.rules.proofs.Bools.{and-left, and-right}
 
 pub below : (z : ℤ) → ltZ z (negsuc 999) ≡ true → false ≡ inGauge z
 unfolding inGauge
@@ -50,3 +52,29 @@ raise (negsuc n) e =
       small = omega arith;
       back = as-difference {a = 1000 - suc n} {b = 1000} (omega arith);
     })
+
+-- a limit in a local holds its bits
+pub same-gauge : (z : ℤ) → SFits w32 z → inGauge (toZ w32 (ofZ w32 z)) ≡ inGauge z
+same-gauge z f = ap inGauge (toZ-ofZ w32 z f)
+
+-- the test of two limits, one after the other
+module _ (upper lower : ℤ) where
+  pub upper-out : inGauge upper ≡ false → false ≡ limitsIn (both upper lower)
+  unfolding limitsIn
+  upper-out h = rw h
+
+  pub lower-out : inGauge upper ≡ true → inGauge lower ≡ false → false ≡ limitsIn (both upper lower)
+  unfolding limitsIn
+  lower-out h l = rw (h, l)
+
+  pub lower-below : inGauge upper ≡ true → inGauge lower ≡ true → ltZ lower upper ≡ limitsIn (both upper lower)
+  unfolding limitsIn
+  lower-below h l = rw (h, l)
+
+  pub upper-in : limitsIn (both upper lower) ≡ true → inGauge upper ≡ true
+  unfolding limitsIn
+  upper-in h = and-left (inGauge upper) _ h
+
+  pub lower-in : limitsIn (both upper lower) ≡ true → inGauge lower ≡ true
+  unfolding limitsIn
+  lower-in h = and-left (inGauge lower) _ (and-right (inGauge upper) _ h)

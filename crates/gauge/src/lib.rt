@@ -1,18 +1,21 @@
-// Document 01, 'Variables, s method': the verdict on readings, and the screen.
+// Document 01, 'Variables, s method', and document 02, T-07: the verdict on readings, and the screen.
 ghost use mathlib.Core.Path.{_≡_};
-ghost use mathlib.Core.Bool.{true};
+ghost use mathlib.Core.Bool.{true, false};
 ghost use Prim.Native.Nat.{_*_, _≤_};
 ghost use lib.IntN.{pos, _-ℤ_};
 ghost use lib.ListN.{length};
 ghost use Rattle.rules.specs.Refusals.{given};
-ghost use Rattle.rules.specs.Variables.{inGauge, margin, spread, withinSpread};
+ghost use Rattle.rules.specs.Variables.{inGauge, spread, withinSpread};
+ghost use Rattle.rules.specs.Limits.{sideOf, withinSigma, spreadIn, limitsIn};
+ghost use Rattle.rules.specs.PlanRules.{VariablesRight};
 ghost use Rattle.rules.specs.Screen.{quotient, shownOf};
 ghost use Rattle.rules.specs.Screen as screens;
-ghost use Rattle.rules.specs.Entries.{variablesSample};
-ghost use Rattle.gauge.specs.Raised.{sumFrom, squaresFrom, Passed};
-ghost use Rattle.gauge.specs.Paper.{shownPaper};
+ghost use Rattle.rules.specs.Entries.{readingsSample};
+ghost use Rattle.gauge.specs.Raised.{sumFrom, squaresFrom, Passed, withinBy, sideFrom, limitsFrom};
+ghost use Rattle.gauge.specs.Paper.{shownPaper, spreadPaper, limitsPaper, sidesHeld};
 ghost use Rattle.plans.specs.Paper.{verdictAnswer};
-ghost use Rattle.entry.specs.Paper.{variablesPaper};
+ghost use Rattle.entry.specs.Paper.{sidesPaper};
+use entry::SidesPlan;
 use entry::VariablesPlan;
 use plans::Verdict;
 use plans::VerdictAnswer;
@@ -27,6 +30,19 @@ pub enum Shown {
     Refused(u8, usize),
     Mean(f64),
     MeanAndVariance(Figures),
+}
+
+// How the spread is had: from the readings, by the s method; or it is known, in thousandths of a gauge unit.
+pub enum Spread {
+    Estimated,
+    Known(u32),
+}
+
+// Which of the two limits that are handed over a drawing has; the other counts for nothing.
+pub enum Sides {
+    Upper,
+    Lower,
+    Both,
 }
 
 // Whether all readings are in range; if so, the sums of the readings plus 1,000 each, and of those squared.
@@ -107,46 +123,153 @@ fn passes(n: u64, k: u64, high: u64, low: u64, t: u64, q: u64) -> bool
     w * (n * q) <= 1000000 * d * (n - 1) + w * tt
 }
 
-// `limit` is plus 1,000, as the readings are.
-fn accepts(upper: bool, n: u64, k: u64, limit: u64, t: u64, q: u64) -> bool
-    requires { ⌜ (1 ≤ n) × (n ≤ 50) × (k ≤ 4000) × (limit ≤ 2000) × (t ≤ 100000) × (q ≤ 200000000) ⌝ }
-    ensures { λ r.
-        ⌜ r
-        ≡ withinSpread n k (margin upper n (sumFrom n t) (pos limit -ℤ pos 1000))
-        (spread n (sumFrom n t) (squaresFrom n t q)) ⌝ }
+// The test with a known spread, of the margin high - low: "1,000,000 (nU − S) ≥ K · sigma · n".
+fn passes_known(n: u64, k: u64, sigma: u64, high: u64, low: u64) -> bool
+    requires { ⌜ (n ≤ 50) × (k ≤ 4000) × (sigma ≤ 1000) × (high ≤ 100000) × (low ≤ 100000) ⌝ }
+    ensures { λ r. ⌜ r ≡ withinSigma n k sigma (pos high -ℤ pos low) ⌝ }
 {
-    let at_limit = n * limit;
-    if upper {
-        return passes(n, k, at_limit, t, t, q);
-    }
-    passes(n, k, t, at_limit, t, q)
+    k * sigma * n + 1000000 * low <= 1000000 * high
 }
 
-// The verdict on a sample of readings, each a 16-bit number in two's complement, for an upper or a lower limit. A plan
-// that no sound book could hold is refused: a book's ranges keep the products within 64 bits.
+// The test of a method, of the margin high - low.
+fn within(method: Spread, n: u64, k: u64, high: u64, low: u64, t: u64, q: u64) -> bool
+    requires { ⌜ (spreadIn (spreadPaper method) ≡ true) × (1 ≤ n) × (n ≤ 50) × (k ≤ 4000)
+        × (high ≤ 100000) × (low ≤ 100000) × (t ≤ 100000) × (q ≤ 200000000) ⌝ }
+    ensures { λ r. ⌜ r
+        ≡ withinBy (spreadPaper method) n k (pos high -ℤ pos low) (spread n (sumFrom n t) (squaresFrom n t q)) ⌝ }
+{
+    match method {
+        Spread::Estimated => passes(n, k, high, low, t, q),
+        Spread::Known(sigma) => passes_known(n, k, sigma as u64, high, low),
+    }
+}
+
+fn side_k(upper: bool, plan: SidesPlan) -> u64
+    ensures { λ r. ⌜ r ≡ sideOf upper (sidesPaper plan) .k ⌝ }
+{
+    if upper {
+        return plan.upper_k as u64;
+    }
+    plan.lower_k as u64
+}
+
+// Whether a side accepts the readings with the sums t and q.
+fn side_accepts(method: Spread, upper: bool, plan: SidesPlan, limit: i32, t: u64, q: u64) -> bool
+    requires { ⌜ (spreadIn (spreadPaper method) ≡ true) × VariablesRight (sideOf upper (sidesPaper plan))
+        × (inGauge limit ≡ true) × (t ≤ 100000) × (q ≤ 200000000) ⌝ }
+    ensures { λ r. ⌜ r ≡ sideFrom (spreadPaper method) upper (sideOf upper (sidesPaper plan)) limit t q ⌝ }
+{
+    let n = plan.n as u64;
+    let k = side_k(upper, plan);
+    let at_limit = n * raised(limit);
+    if upper {
+        return within(method, n, k, at_limit, t, t, q);
+    }
+    within(method, n, k, t, at_limit, t, q)
+}
+
+// Of two limits, "accept only if both sides accept".
+fn accepts(
+    method: Spread,
+    sides: Sides,
+    upper: i32,
+    lower: i32,
+    plan: SidesPlan,
+    t: u64,
+    q: u64,
+) -> bool
+    requires { ⌜ (spreadIn (spreadPaper method) ≡ true) × (limitsIn (limitsPaper sides upper lower) ≡ true)
+        × VariablesRight (sideOf true (sidesPaper plan)) × VariablesRight (sideOf false (sidesPaper plan))
+        × (t ≤ 100000) × (q ≤ 200000000) ⌝ }
+    ensures { λ r. ⌜ r ≡ limitsFrom (spreadPaper method) (limitsPaper sides upper lower) (sidesPaper plan) t q ⌝ }
+{
+    match sides {
+        Sides::Upper => side_accepts(method, true, plan, upper, t, q),
+        Sides::Lower => side_accepts(method, false, plan, lower, t, q),
+        Sides::Both => {
+            if !side_accepts(method, true, plan, upper, t, q) {
+                return false;
+            }
+            side_accepts(method, false, plan, lower, t, q)
+        }
+    }
+}
+
+// "sigma is a whole number 1 to 1,000".
+fn spread_in(method: Spread) -> bool
+    ensures { λ r. ⌜ r ≡ spreadIn (spreadPaper method) ⌝ }
+{
+    match method {
+        Spread::Estimated => true,
+        Spread::Known(sigma) => (1 <= sigma) & (sigma <= 1000),
+    }
+}
+
+// Limits are in range, and of two the lower is below the upper.
+fn limits_in(sides: Sides, upper: i32, lower: i32) -> bool
+    ensures { λ r. ⌜ r ≡ limitsIn (limitsPaper sides upper lower) ⌝ }
+{
+    match sides {
+        Sides::Upper => in_gauge(upper),
+        Sides::Lower => in_gauge(lower),
+        Sides::Both => {
+            if !in_gauge(upper) {
+                return false;
+            }
+            if !in_gauge(lower) {
+                return false;
+            }
+            lower < upper
+        }
+    }
+}
+
+// Could a sound book hold the plan of each side?
+fn sides_hold(plan: SidesPlan) -> bool
+    ensures { λ r. ⌜ r ≡ sidesHeld (sidesPaper plan) ⌝ }
+{
+    let upper = VariablesPlan {
+        n: plan.n,
+        k: plan.upper_k,
+    };
+    let lower = VariablesPlan {
+        n: plan.n,
+        k: plan.lower_k,
+    };
+    entry::variables_holds(upper) & entry::variables_holds(lower)
+}
+
+// The verdict on a sample of readings, each a 16-bit number in two's complement, by either method, for one limit or
+// two. A plan that no sound book could hold is refused: a book's ranges keep the products within 64 bits.
 pub fn judge_readings(
-    upper: bool,
-    plan: VariablesPlan,
-    limit: i32,
+    method: Spread,
+    sides: Sides,
+    upper: i32,
+    lower: i32,
+    plan: SidesPlan,
     readings: &[u8],
 ) -> VerdictAnswer
-    ensures { λ r. ⌜ verdictAnswer r ≡ variablesSample upper (variablesPaper plan) limit (now (readings .entry)) ⌝ }
+    ensures { λ r. ⌜ verdictAnswer r
+        ≡ readingsSample (spreadPaper method) (limitsPaper sides upper lower) (sidesPaper plan)
+        (now (readings .entry)) ⌝ }
 {
-    if !entry::variables_holds(plan) {
+    if !sides_hold(plan) {
         return VerdictAnswer::Refused(plans::NO_PLAN, 0);
     }
-    let n = plan.n as u64;
-    if readings.len() as u64 != 2 * n {
+    if readings.len() as u64 != 2 * (plan.n as u64) {
         return VerdictAnswer::Refused(plans::WRONG_LENGTH, 0);
     }
     let sums = sum_up(readings);
     if !sums.sound {
         return VerdictAnswer::Refused(plans::OUT_OF_RANGE, 0);
     }
-    if !in_gauge(limit) {
+    if !spread_in(method) {
         return VerdictAnswer::Refused(plans::OUT_OF_RANGE, 0);
     }
-    let accepted = accepts(upper, n, plan.k as u64, raised(limit), sums.t, sums.q);
+    if !limits_in(sides, upper, lower) {
+        return VerdictAnswer::Refused(plans::OUT_OF_RANGE, 0);
+    }
+    let accepted = accepts(method, sides, upper, lower, plan, sums.t, sums.q);
     VerdictAnswer::Given(Verdict {
         accepted,
         used: plan.n as u32,

@@ -1,4 +1,4 @@
--- What each kind keeps of its rows, whatever its number: any number from 3 on is that of the last kind.
+-- What each kind keeps of its rows, whatever its number: any number from 3 on is of a kind laid out as the fourth.
 -- Assumes nothing.
 use Prim.Native.Nat.{ℕ, _≤_, _<_}
 use mathlib.Core.Path.{_≡_, refl, ap, _∙_}

@@ -15,8 +15,8 @@ use Rattle.rules.specs.Faults.{EntryFault}
 use Rattle.rules.specs.Writing.{Rows, entryInRow, rowRight, checkRows, soundThen, checkLists}
 use Rattle.rules.specs.Writable.{RowFault, cutShort, refusedAt, keyOver, BadRow, entriesBefore, BadEntry}
 use Rattle.rules.proofs.Faults.{Tells, entry-tells}
-use Rattle.rules.proofs.RowLaws.{Rowed, rowed, in-row-length, in-row-size}
-use Rattle.rules.proofs.Written.{deep-of, right-so, AllRowed}
+use Rattle.rules.proofs.RowLaws.{Rowed, in-row-length, in-row-size}
+use Rattle.rules.proofs.Written.{deep-of, right-so, AllRowed, all-rowed}
 
 -- What a check finds, of faults at positions: none, or the one at the lowest.
 abbrev pub Finds : (ℕ → Type 0) → Checked → Type 0
@@ -171,10 +171,7 @@ lists-find (k ∷ ks) all j p rows e =
           )),
     )
 
-pub all-rowed : AllRowed kinds
-all-rowed i l = rowed i l
-
--- the check of the four lists
+-- the check of the five lists
 pub entries-find : (rows : ℕ → Rows) → Finds (BadEntry rows) (checkLists kinds 0 0 rows)
 unfolding entriesBefore
 entries-find rows =

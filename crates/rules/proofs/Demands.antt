@@ -2,6 +2,7 @@
 -- Assumes nothing.
 pub mod Curtailed
 pub mod Fractional
+pub mod Limits
 pub mod Three
 pub mod Two
 pub mod TypedBooks

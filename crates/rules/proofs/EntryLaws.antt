@@ -78,10 +78,10 @@ pub is-sound : (c : Checked) → _≡_ {A = Answer (Unit {0})} (given tt) (onSou
 is-sound sound e = refl
 is-sound (brokenAt byte) e = absurd (refused-given (sym e))
 
-found-something : {e : List ℕ} → found e ≡ nothing → ⊥
+pub found-something : {e : List ℕ} → found e ≡ nothing → ⊥
 found-something e = let z : _≡_ {A = ℕ} 0 1 = cc in omega arith
 
-found-one : {d e : List ℕ} → found d ≡ found e → d ≡ e
+pub found-one : {d e : List ℕ} → found d ≡ found e → d ≡ e
 found-one e = cc
 
 -- two checks, and then what is given

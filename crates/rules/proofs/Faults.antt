@@ -6,22 +6,23 @@ use mathlib.Core.Path.{_≡_, refl, ap, sym, _∙_}
 use mathlib.Core.Bool.{Bool, true, false, cond, _&&_, not, true≢false, and-false}
 use mathlib.Core.List.{List, [], _∷_}
 use native.Mathlib.Omega.{arith}
-use borrow.Author.Tests.{ltb-true, ltb-false, leb-true, le-leb, not-true}
+use borrow.Author.Tests.{ltb-true, ltb-false, lt-ltb, le-ltb, leb-true, le-leb, not-true}
 use lib.ListN.{length, getD, take, drop, length-drop}
-use lib.Seq.{drop-drop}
+use lib.Seq.{drop-drop, getD-drop}
 use lib.Dec.{ltb, leb}
 use Rattle.rules.specs.Numbers.{numbersOf}
 use Rattle.rules.specs.Book.{Walk, ends, broken, short, shift, thenFrom, Kind, right, numbersFrom, sizeOf}
 use Rattle.rules.specs.Book.{within, anything, keyOf, rises, keyFalls, entry, entries, section, sections}
-use Rattle.rules.specs.Book.{kinds, variables, largestBook, Checked, sound, brokenAt, checkedAs, checkBook}
-use Rattle.rules.specs.Layout.{entryAt, keyBefore, sectionSize, sectionAt, bookEnd}
+use Rattle.rules.specs.Book.{sigma, always, kinds, kindAt, fifth, allSections, variables, largestBook, Checked}
+use Rattle.rules.specs.Book.{sound, brokenAt, checkedAs, checkBook}
+use Rattle.rules.specs.Layout.{entryAt, keyBefore, sectionSize, sectionAt, fourthEnd, bookEnd}
 use Rattle.rules.specs.Faults.{EntryFault, outOfRange, breaksRule}
 use Rattle.rules.specs.Faults.{keyStays, EntriesFault, SectionFault, SectionsFault, BookFault, tooLong}
-use Rattle.rules.specs.Faults.{wrongNumber, follows, missing, Lowest}
+use Rattle.rules.specs.Faults.{wrongNumber, emptyFifth, follows, missing, Lowest}
 use Rattle.rules.proofs.Bounded.{by-le}
 use Rattle.rules.proofs.Numbers.{numbers-low, numbers-high}
-use Rattle.rules.proofs.SectionKinds.{key-there, entry-deep}
-use Rattle.rules.proofs.Steps.{book-long, book-is, after-end, at-end, at-broken, at-short}
+use Rattle.rules.proofs.SectionKinds.{key-there, entry-deep, always-kind, always-at}
+use Rattle.rules.proofs.Steps.{book-long, book-is, after-end, at-end, at-broken, at-short, by-fifth}
 
 -- What a walk tells of a stretch of l numbers whose layout has s, with the faults F: it ends after those s, with no
 -- fault; it is broken at the lowest fault; or there are fewer than s, with no fault.
@@ -299,6 +300,54 @@ sections-tell (k ∷ ks) deep ws =
     (omega arith))
     (x .fault)))
 
+-- a section starts where the one before it ends
+pub section-next : (ks : List Kind) (j : ℕ) (ws : List ℕ) → j < length ks
+    → sectionAt ks (suc j) ws ≡ sectionAt ks j ws + sectionSize (getD ks j variables) (drop (sectionAt ks j ws) ws)
+unfolding sectionAt
+section-next [] j ws h = let z : ⊥ = omega arith in absurd z
+section-next (k ∷ ks) zero ws h = omega arith
+section-next (k ∷ ks) (suc j) ws h =
+    rw (← drop-drop (sectionAt ks j (drop (sectionSize k ws) ws)) (sectionSize k ws) ws)
+    (omega (arith, section-next ks j (drop (sectionSize k ws) ws) (omega arith)))
+
+pub always-deep : (j : ℕ) → j < length always → Deep (getD always j variables)
+always-deep j h =
+    rw (always-kind j (omega arith)) (key-there j (omega arith), entry-deep j (omega arith))
+
+always-tell : (ws : List ℕ)
+    → Tells (SectionsFault always ws) (sectionAt kinds 4 ws) (length ws) (sections always ws)
+always-tell ws = rw (← always-at ws 4 (omega arith)) (sections-tell always always-deep ws)
+
+-- four sections that end, end where the layout has their end
+pub fourth-ends : (ws : List ℕ) (p : ℕ) → sections always ws ≡ ends p → p ≡ sectionAt kinds 4 ws
+fourth-ends ws p e = let t : Tells _ (sectionAt kinds 4 ws) (length ws) (ends p) = rw e at (always-tell ws) in t .0
+
+-- What applies at place q of all that follows the fourth section: a fault of the fifth, or that its count is 0.
+data FifthFault (rest : List ℕ) (q : ℕ) : Type 0 where
+  inFifth : SectionFault sigma rest q → FifthFault rest q
+  noEntry : q ≡ 0 → 0 < length rest → getD rest 0 0 ≡ 0 → FifthFault rest q
+
+fifth-gone : (rest : List ℕ) → length rest ≡ 0 → (q : ℕ) → FifthFault rest q → ⊥
+fifth-gone rest z q (inFifth f) = section-gone sigma rest q z f
+fifth-gone rest z q (noEntry e l c) = omega arith
+
+-- t numbers stand there, none where no byte follows the fourth section
+fifth-tells : (len p t : ℕ) (rest : List ℕ) → (len ≤ 2 * p → (t ≡ 0) × (length rest ≡ 0))
+    → (2 * p < len → t ≡ sectionSize sigma rest) → Tells (FifthFault rest) t (length rest) (fifth len p rest)
+fifth-tells len p t rest none some =
+    by-fifth len p rest (Tells (FifthFault rest) t (length rest))
+    (λ h. (sym (none h .0), (omega (arith, none h .0), fifth-gone rest (none h .1))))
+    (λ h l z. (noEntry refl l z, (omega (arith, some h), (l, λ q f. omega arith))))
+    (λ h c.
+    rw (some h)
+    (same-faults (SectionFault sigma rest) (FifthFault rest) (sectionSize sigma rest) (length rest)
+    (section sigma rest) (λ q. inFifth) (own c)
+    (section-tells sigma (key-there 4 (omega arith), entry-deep 4 (omega arith)) rest)))
+  where
+    own : (0 < length rest → 0 < getD rest 0 0) → (q : ℕ) → FifthFault rest q → SectionFault sigma rest q
+    own c q (inFifth f) = f
+    own c q (noEntry e l z) = absurd (omega (arith, c l))
+
 -- what is claimed of the check of a book
 abbrev Claims : List ℕ → Checked → Type 0
 Claims bytes sound = (b : ℕ) → BookFault bytes b → ⊥
@@ -306,15 +355,94 @@ Claims bytes (brokenAt b) = Lowest bytes b
 
 -- a book that is not too long
 module _ (bytes : List ℕ) (fits : length bytes ≤ largestBook) where
+  abbrev ws : List ℕ
+  ws = numbersOf bytes
+
+  abbrev Within : ℕ → Type 0
+  Within = Either (SectionsFault always ws) (FifthFault (drop (fourthEnd bytes) ws)) (fourthEnd bytes)
+
   abbrev Said : Walk → Type 0
-  Said = Tells (SectionsFault kinds (numbersOf bytes)) (bookEnd bytes) (length (numbersOf bytes))
+  Said = Tells Within (bookEnd bytes) (length ws)
+
+  -- how many numbers the layout has after the fourth section
+  abbrev size : ℕ
+  size = bookEnd bytes - fourthEnd bytes
+
+  absent : length bytes ≤ 2 * fourthEnd bytes → bookEnd bytes ≡ fourthEnd bytes
+  absent h = rw (le-ltb (2 * fourthEnd bytes) (length bytes) h)
+
+  present : 2 * fourthEnd bytes < length bytes
+      → bookEnd bytes ≡ fourthEnd bytes + sectionSize sigma (drop (fourthEnd bytes) ws)
+  present h = rw (lt-ltb (2 * fourthEnd bytes) (length bytes) h) (section-next kinds 4 ws (omega arith))
+
+  book-said : Said (allSections (length bytes) ws)
+  unfolding allSections
+  book-said =
+      then-tells (SectionsFault always ws) (FifthFault (drop (fourthEnd bytes) ws)) (fourthEnd bytes) size
+      (bookEnd bytes) (length ws) (length (drop (fourthEnd bytes) ws)) is-size (length-drop (fourthEnd bytes) ws)
+      (sections always ws) (λ p. fifth (length bytes) p (drop p ws)) (always-tell ws)
+      (λ l.
+      fifth-tells (length bytes) (fourthEnd bytes) size (drop (fourthEnd bytes) ws)
+      (λ h. (omega (arith, absent h), omega (arith, numbers-low bytes, length-drop (fourthEnd bytes) ws)))
+      (λ h. omega (arith, present h)))
+      (λ l r f. fifth-gone (drop (fourthEnd bytes) ws) (omega (arith, length-drop (fourthEnd bytes) ws)) r f)
+    where
+      is-size : bookEnd bytes ≡ fourthEnd bytes + size
+      is-size =
+          by-le (length bytes) (2 * fourthEnd bytes) (λ h. omega (arith, absent h)) (λ h. omega (arith, present h))
+
+  -- the faults of the five sections, and a fifth count of 0
+  wrong-within : (q : ℕ) → SectionsFault kinds ws q → Within q
+  wrong-within q f = go (f .nth) (f .among) (f .stands) (f .fault)
+    where
+      go : (j : ℕ) → j < 5 → q ≡ sectionAt kinds j ws + f .place
+          → SectionFault (kindAt j) (drop (sectionAt kinds j ws) ws) (f .place) → Within q
+      go j l e x =
+          by-le j 3
+          (λ h.
+          here
+          (record {
+            nth = j;
+            among = omega arith;
+            place = f .place;
+            stands = rw (always-at ws j l) e;
+            fault = rw (always-at ws j l, always-kind j l) x;
+          }))
+          (λ h. let z : j ≡ 4 = omega arith in later (f .place) (rw z at e) (inFifth (rw z at x)))
+
+  empty-within : fourthEnd bytes < length ws → getD ws (fourthEnd bytes) 0 ≡ 0 → Within (fourthEnd bytes)
+  empty-within l z =
+      let e : fourthEnd bytes + 0 ≡ fourthEnd bytes = omega arith in
+      later 0 (sym e)
+      (noEntry refl (omega (arith, length-drop (fourthEnd bytes) ws))
+      (getD-drop (fourthEnd bytes) ws 0 0 ∙ rw e z))
+
+  applied : (q : ℕ) → Within q → BookFault bytes (2 * q)
+  applied q (here f) =
+      wrongNumber fits q refl
+      (record {
+        nth = f .nth;
+        among = omega (arith, f .among);
+        place = f .place;
+        stands = rw (← always-at ws (f .nth) (omega (arith, f .among))) (f .stands);
+        fault =
+            rw (← always-at ws (f .nth) (omega (arith, f .among)), ← always-kind (f .nth) (omega (arith, f .among)))
+            (f .fault);
+      })
+  applied q (later r e (inFifth f)) =
+      wrongNumber fits q refl (record { nth = 4; among = omega arith; place = r; stands = e; fault = f })
+  applied q (later r e (noEntry z l c)) =
+      let same : fourthEnd bytes + 0 ≡ fourthEnd bytes = omega arith in
+      emptyFifth fits (omega (arith, length-drop (fourthEnd bytes) ws))
+      (sym (ap (λ (p : ℕ). getD ws p 0) same) ∙ sym (getD-drop (fourthEnd bytes) ws 0 0) ∙ c) (omega arith)
 
   -- a byte that is no higher than a fault of each kind
-  bounded : (b c : ℕ) → ((q : ℕ) → SectionsFault kinds (numbersOf bytes) q → b ≤ 2 * q)
+  bounded : (b c : ℕ) → ((q : ℕ) → Within q → b ≤ 2 * q)
       → (2 * bookEnd bytes < length bytes → b ≤ 2 * bookEnd bytes)
       → (length (numbersOf bytes) < bookEnd bytes → b ≤ length bytes) → BookFault bytes c → b ≤ c
   bounded b c n f m (tooLong l e) = omega arith
-  bounded b c n f m (wrongNumber l q e x) = omega (arith, n q x)
+  bounded b c n f m (wrongNumber l q e x) = omega (arith, n q (wrong-within q x))
+  bounded b c n f m (emptyFifth l h z e) = omega (arith, n (fourthEnd bytes) (empty-within h z))
   bounded b c n f m (follows l h e) = omega (arith, f h)
   bounded b c n f m (missing l h e) = omega (arith, m h)
 
@@ -325,7 +453,8 @@ module _ (bytes : List ℕ) (fits : length bytes ≤ largestBook) where
     where
       none : length bytes ≤ 2 * p → (c : ℕ) → BookFault bytes c → ⊥
       none h c (tooLong l e) = omega arith
-      none h c (wrongNumber l q e x) = t .1 .1 q x
+      none h c (wrongNumber l q e x) = t .1 .1 q (wrong-within q x)
+      none h c (emptyFifth l g z e) = t .1 .1 (fourthEnd bytes) (empty-within g z)
       none h c (follows l g e) = omega (arith, t .0)
       none h c (missing l g e) = omega (arith, t .1 .0)
 
@@ -339,7 +468,7 @@ module _ (bytes : List ℕ) (fits : length bytes ≤ largestBook) where
   walked (broken p) t =
       rw (at-broken (length bytes) p)
       (record {
-        applies = wrongNumber fits p refl (t .0);
+        applies = applied p (t .0);
         least =
             λ c.
             bounded (2 * p) c (λ q x. omega (arith, t .1 .1 .1 q x)) (λ g. omega (arith, t .1 .0))
@@ -358,6 +487,7 @@ module _ (bytes : List ℕ) (fits : length bytes ≤ largestBook) where
 only-too-long : (bytes : List ℕ) → largestBook < length bytes → (c : ℕ) → BookFault bytes c → largestBook ≤ c
 only-too-long bytes h c (tooLong l e) = omega arith
 only-too-long bytes h c (wrongNumber l q e x) = omega arith
+only-too-long bytes h c (emptyFifth l g z e) = omega arith
 only-too-long bytes h c (follows l g e) = omega arith
 only-too-long bytes h c (missing l g e) = omega arith
 
@@ -365,9 +495,8 @@ book-claims : (bytes : List ℕ) → Claims bytes (checkBook bytes)
 book-claims bytes =
     by-le (length bytes) largestBook
     (λ h.
-    rw (book-is bytes (sections kinds (numbersOf bytes)) h refl)
-    (walked bytes h (sections kinds (numbersOf bytes))
-    (sections-tell kinds (λ j l. (key-there j l, entry-deep j l)) (numbersOf bytes))))
+    rw (book-is bytes (allSections (length bytes) (numbersOf bytes)) h refl)
+    (walked bytes h (allSections (length bytes) (numbersOf bytes)) (book-said bytes h)))
     (λ h. rw (book-long bytes h) (record { applies = tooLong h refl; least = only-too-long bytes h }))
 
 pub lowest : (bytes : List ℕ) (b : ℕ) → checkBook bytes ≡ brokenAt b → Lowest bytes b

@@ -10,9 +10,8 @@ use lib.ListN.{length, getD, take}
 use lib.Dec.{T, leb, eqb, leb→le}
 use Rattle.rules.specs.Refusals.{given}
 use Rattle.rules.specs.Codes.{letterOf, reduced}
-use Rattle.rules.specs.Book.{sound, checkBook, kinds, kindAt}
-use Rattle.rules.specs.Book.{staged, sequential, variables, stagedOf, sequentialOf}
-use Rattle.rules.specs.Book.{variablesOf, couldHold}
+use Rattle.rules.specs.Book.{sound, checkBook, kinds, kindAt, found}
+use Rattle.rules.specs.Book.{staged, sequential, stagedOf, sequentialOf, variablesOf}
 use Rattle.rules.specs.Book.{keyOf, keyFor}
 use Rattle.rules.specs.Numbers.{numbersOf, sumOf}
 use Rattle.rules.specs.Layout.{EntryIn}
@@ -23,11 +22,13 @@ use Rattle.rules.specs.Staged.{StagedPlan, stagesOf, totalSize, stageAt,
 use Rattle.rules.specs.Sequential.{SequentialPlan, judgeSequence}
 use Rattle.rules.specs.Variables.{VariablesPlan}
 use Rattle.rules.specs.Entries.{Asked, stagedPlan, sequentialPlan}
-use Rattle.rules.specs.Entries.{variablesPlan, variablesEntry, stagedSection}
+use Rattle.rules.specs.Limits.{Spread, estimated, known, SidesPlan, sideOf}
+use Rattle.rules.specs.Entries.{lookedUp, underColumn, readingsPlan, sidesPlan, sectionFor, stagedSection}
+use Rattle.rules.specs.Entries.{sigmaSection}
 use Rattle.rules.specs.Entries.{reducedSection, sequentialSection, variablesSection, singlePlan}
 use Rattle.rules.specs.Entries.{reducedPlan, inFractions, fractionalPlan}
 use Rattle.rules.specs.Judging.{sizeOfFirst}
-use Rattle.rules.specs.Planning.{Plannable, UnderKey, SinglePlanned, Supplies}
+use Rattle.rules.specs.Planning.{Plannable, UnderKey, SinglePlanned, Supplies, SidesSupplied}
 use Rattle.rules.specs.PlanRules.{Held}
 use Rattle.rules.proofs.Answers.{then-given}
 use Rattle.rules.proofs.Fractions.{InMode, whole, fraction, in-mode}
@@ -35,12 +36,12 @@ use Rattle.rules.proofs.Bounded.{by-le, all, all-at, all-at₃, both-le
 use Rattle.rules.proofs.Landing.{landing-letter, landing-box}
 use Rattle.rules.proofs.Tables.{letter-within}
 use Rattle.rules.proofs.Deciding.{never-runs-out, never-past, sequence-decided}
-use Rattle.rules.proofs.Demands.Two.{staged-plan-given, sequential-plan-given, variables-plan-given}
+use Rattle.rules.proofs.Demands.Two.{staged-plan-given, sequential-plan-given, readings-plan-given}
+use Rattle.rules.proofs.Demands.Limits.{sides-plan-given}
 use Rattle.rules.proofs.Demands.Two.{single-plan-given}
 use Rattle.rules.proofs.LookUp.{found-in, found-under, found-held, entry-in-found}
 use Rattle.rules.proofs.HeldPlans.{SingleRight, cut-fits, reduced-held}
-use Rattle.rules.proofs.HeldPlans.{SequentialRight, sequential-held, VariablesRight}
-use Rattle.rules.proofs.HeldPlans.{variables-held, variables-could}
+use Rattle.rules.proofs.HeldPlans.{SequentialRight, sequential-held, VariablesRight, variables-held}
 use Rattle.rules.proofs.HeldStaged.{StagedRight, staged-held, staged-decides}
 
 -- an entry of a sound book under the key of a lot that can be planned, and not above it, supplies the plan
@@ -79,7 +80,7 @@ module _ (q : Asked) (book : List ℕ) (good : checkBook book ≡ sound) (lot : 
         from-tables = λ r. absurd (r s);
       })
 
-  -- A staged, sequential or variables plan is given where it is not above the lot.
+  -- A staged or sequential plan, or one for readings, is given where it is not above the lot.
   pub staged-supplies : EntryIn stagedSection (numbersOf book) e → UnderKey q e
       → totalSize (stagesOf (stagedOf e)) ≤ q .size → stagedPlan q book ≡ given (stagedOf e)
   staged-supplies x u fits =
@@ -92,11 +93,14 @@ module _ (q : Asked) (book : List ℕ) (good : checkBook book ≡ sound) (lot : 
       sequential-plan-given q book (sequentialOf e) .1
       (supplies sequentialSection _ sequentialOf q book (omega arith) good lot e x u fits)
 
-  pub variables-supplies : EntryIn variablesSection (numbersOf book) e → UnderKey q e → variablesOf e .n ≤ q .size
-      → variablesPlan q book ≡ given (variablesOf e)
-  variables-supplies x u fits =
-      variables-plan-given q book (variablesOf e) .1
+  pub readings-supplies : (m : Spread) → EntryIn (sectionFor m) (numbersOf book) e → UnderKey q e
+      → variablesOf e .n ≤ q .size → readingsPlan (sectionFor m) q book ≡ given (variablesOf e)
+  readings-supplies estimated x u fits =
+      readings-plan-given q book variablesSection (variablesOf e) .1
       (supplies variablesSection _ variablesOf q book (omega arith) good lot e x u fits)
+  readings-supplies (known sigma) x u fits =
+      readings-plan-given q book sigmaSection (variablesOf e) .1
+      (supplies sigmaSection _ variablesOf q book (omega arith) good lot e x u fits)
 
 -- the entry that supplies a plan could be held
 supplied-held : {P : Type 0} (j : ℕ) (needed : List ℕ → ℕ) (planOf : List ℕ → P) (q : Asked) (book : List ℕ) (p : P)
@@ -133,13 +137,45 @@ module _ (q : Asked) (book : List ℕ) where
   sequential-in-time p h sample v j =
       never-past p (sequential-given p h .nt .0) sample v (sequence-decided p sample v .0 j)
 
-  pub variables-given : (p : VariablesPlan) → variablesPlan q book ≡ given p
-      → VariablesRight p × (couldHold variables (variablesEntry p) ≡ true)
-  variables-given p h =
-      let s = variables-plan-given q book p .0 h in
-      let k : Held variables (s .entry) = supplied-held variablesSection _ variablesOf q book p (omega arith) s in
-      let r : VariablesRight p = rw (← s .is-plan) (variables-held (s .entry) k) in
-      (r, variables-could p r)
+  -- for readings, by either method
+  entry-right : (m : Spread) (c : ℕ) (e : List ℕ) → checkBook book ≡ sound
+      → lookedUp (sectionFor m) (underColumn q c) book ≡ found e → VariablesRight (variablesOf e)
+  entry-right estimated c e good f =
+      variables-held e
+      (found-held book good variablesSection (omega arith) (q .severity) (letterOf (q .size) (q .level)) c e f)
+  entry-right (known sigma) c e good f =
+      variables-held e
+      (found-held book good sigmaSection (omega arith) (q .severity) (letterOf (q .size) (q .level)) c e f)
+
+  pub readings-given : (m : Spread) (p : VariablesPlan) → readingsPlan (sectionFor m) q book ≡ given p
+      → VariablesRight p
+  readings-given m p h =
+      let s = readings-plan-given q book (sectionFor m) p .0 h in
+      rw (← s .is-plan) (entry-right m (q .column) (s .entry) (s .book-sound) (s .under-key))
+
+  -- .. and for two limits, on each side
+  pub sides-given : (m : Spread) (lower : ℕ) (p : SidesPlan) → sidesPlan (sectionFor m) q lower book ≡ given p
+      → (upper : Bool) → VariablesRight (sideOf upper p)
+  sides-given m lower p h upper =
+      let s = sides-plan-given (sectionFor m) q lower book p .0 h in
+      rw (← s .is-plan)
+      (on upper s
+      (entry-right m (q .column) (s .upper-entry) (s .book-sound) (s .upper-under-key))
+      (entry-right m lower (s .lower-entry) (s .book-sound) (s .lower-under-key)))
+    where
+      on : (upper : Bool) (s : SidesSupplied (sectionFor m) q lower book p)
+          → VariablesRight (variablesOf (s .upper-entry))
+          → VariablesRight (variablesOf (s .lower-entry))
+          → VariablesRight
+          (sideOf upper
+          (record {
+            n = variablesOf (s .upper-entry) .n;
+            upperK = variablesOf (s .upper-entry) .k;
+            lowerK = variablesOf (s .lower-entry) .k;
+          }))
+      on true s u l = u
+      on false s u l =
+          record { two = u .two; fifty = u .fifty; some = l .some; high = l .high }
 
 -- the plans of the tables: sizes 2 to 3,150, and Ac at most 44
 inTable : ℕ → Bool

@@ -190,7 +190,8 @@ pub reject-line : (p : SequentialPlan) → SequentialRight p → (d : ℕ) → o
 unfolding itemDecides
 reject-line p r d h = rw (le-ltb (p .nt) (p .nt) (omega arith), lt-leb d (p .atNt) (r .rejects d h))
 
--- Where columns go to 15 only, nothing stands under a higher one: sequential and variables lots there are refused 6.
+-- Where columns go to 15 only, nothing stands under a higher one: sequential, variables and sigma lots there are
+-- refused 6.
 pub no-higher-column : (book : List ℕ) → checkBook book ≡ sound → (j : ℕ) → 2 ≤ j → j < length kinds
     → (severity letter column : ℕ) → 15 < column → lookUp j severity letter column (numbersOf book) ≡ nothing
 no-higher-column book good j l h severity letter column c = go (lookUp j severity letter column (numbersOf book)) refl

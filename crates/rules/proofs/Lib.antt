@@ -18,6 +18,7 @@ pub mod EventLaws
 pub mod Faults
 pub mod Feeding
 pub mod FewKeys
+pub mod FifthSection
 pub mod FractionRuns
 pub mod Fractions
 pub mod FullCount
@@ -29,6 +30,7 @@ pub mod Items
 pub mod Landing
 pub mod Leaving
 pub mod LentRows
+pub mod LimitLaws
 pub mod LineForms
 pub mod LogRuns
 pub mod LookUp
@@ -51,6 +53,7 @@ pub mod SMethod
 pub mod SampleLaws
 pub mod SampleSteps
 pub mod SectionKinds
+pub mod SigmaMethod
 pub mod Singles
 pub mod Slips
 pub mod StagedExactly
@@ -68,6 +71,7 @@ pub mod Worked
 pub mod WorkedBooks
 pub mod WorkedCurtailed
 pub mod WorkedFractions
+pub mod WorkedLimits
 pub mod WorkedRows
 pub mod WorkedWholeLots
 pub mod Written

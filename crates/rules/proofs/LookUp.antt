@@ -1,28 +1,33 @@
 -- What a look-up in a sound book finds: an entry of the section under the key asked, the only one, each of its numbers
 -- in range and keeping its rules; and every entry under the key is found. Proved once over the kinds of section.
 -- Assumes nothing.
-use Prim.Native.Nat.{ℕ, zero, suc, _≤_, _<_}
+use Prim.Native.Nat.{ℕ, zero, suc, _+_, _*_, _≤_, _<_}
 use mathlib.Core.Path.{_≡_, refl, ap, sym, _∙_}
 use mathlib.Core.Bool.{Bool, true, false, cond, _&&_, true≢false}
 use mathlib.Core.List.{List, [], _∷_}
 use native.Mathlib.Omega.{arith}
 use borrow.Author.Tests.{ltb-true, ltb-false, eqb-true, eq-eqb, le-ltb}
-use lib.ListN.{length, getD, take, drop}
+use lib.ListN.{length, getD, take, drop, drop-of-length-le}
 use lib.Seq.{drop-drop, getD-take, take-take, length-take-le}
 use lib.Dec.{ltb, eqb}
 use Rattle.rules.specs.Numbers.{numbersOf}
 use Rattle.rules.specs.Book.{Walk, ends, broken, short, shift, thenFrom, Kind, right, numbersFrom, sizeOf}
-use Rattle.rules.specs.Book.{keyOf, rises, entry, entries, section, sections, kinds, kindAt, variables}
-use Rattle.rules.specs.Book.{largestBook, sound, brokenAt, checkedAs, checkBook, found}
+use Rattle.rules.specs.Book.{keyOf, rises, entry, entries, section, sections, sigma, always, kinds, kindAt}
+use Rattle.rules.specs.Book.{variables, fifth, allSections, largestBook, sound, brokenAt, checkedAs, checkBook}
+use Rattle.rules.specs.Book.{found}
 use Rattle.rules.specs.Book.{keyFor, sameKey, seek, seekIn, lookUp, isEnd, couldHold}
 use Rattle.rules.specs.Faults.{EntryFault, keyStays}
 use Rattle.rules.specs.Layout.{entryAt, keyBefore, sectionSize, sectionAt, entryOf, sectionFrom, EntryIn}
+use Rattle.rules.specs.Layout.{fourthEnd}
 use Rattle.rules.specs.PlanRules.{Held}
 use Rattle.rules.proofs.Bools.{true-unless}
 use Rattle.rules.proofs.Walks.{broken-no-end, short-no-end, entry-ends}
-use Rattle.rules.proofs.Steps.{rises-less, rises-same}
-use Rattle.rules.proofs.SectionKinds.{key-there, entry-deep}
+use Rattle.rules.proofs.Bounded.{by-le}
+use Rattle.rules.proofs.Numbers.{numbers-low}
+use Rattle.rules.proofs.Steps.{rises-less, rises-same, section-short, by-fifth, after-end}
+use Rattle.rules.proofs.SectionKinds.{key-there, entry-deep, always-kind, always-take, always-at}
 use Rattle.rules.proofs.Faults.{Tells, Wrong, numbers-tell, wrong-is, Deep, entry-tells, section-tells, key-next}
+use Rattle.rules.proofs.Faults.{always-deep, fourth-ends}
 
 module _ (k : Kind) (e : List ℕ) where
   told : Tells (Wrong k e 0 (sizeOf k e)) (sizeOf k e) (length e) (numbersFrom k e (sizeOf k e) 0)
@@ -110,19 +115,66 @@ record Ending (w : Walk) : Type 0 where
   end : ℕ
   is : w ≡ ends end
 
+pub ends-one : {a b : ℕ} → ends a ≡ ends b → a ≡ b
+ends-one h = cc
+
 pub broken-unsound : {P : Type 0} {b : ℕ} → brokenAt b ≡ sound → P
 broken-unsound e = let z : _≡_ {A = ℕ} 0 1 = cc in let y : ⊥ = omega arith in absurd y
 
--- the sections of a sound book end
-sound-ends : (bytes : List ℕ) → checkBook bytes ≡ sound → Ending (sections kinds (numbersOf bytes))
-unfolding checkBook checkedAs
-sound-ends bytes e = go (ltb largestBook (length bytes)) (sections kinds (numbersOf bytes)) e
+-- A sound book: its four sections end, and so does what follows them; it is not long, and nothing follows.
+pub record Whole (book : List ℕ) : Type 0 where
+  pub fourth : sections always (numbersOf book) ≡ ends (fourthEnd book)
+  pub size : ℕ
+  pub after : fifth (length book) (fourthEnd book) (drop (fourthEnd book) (numbersOf book)) ≡ ends size
+  pub up-to : length book ≤ 2 * (fourthEnd book + size)
+  pub not-long : length book ≤ largestBook
+
+pub sound-whole : (book : List ℕ) → checkBook book ≡ sound → Whole book
+unfolding checkBook checkedAs allSections thenFrom shift
+sound-whole book e = go (ltb largestBook (length book)) (sections always (numbersOf book)) refl refl e
   where
-    go : (x : Bool) (w : Walk) → cond x (brokenAt largestBook) (checkedAs (length bytes) w) ≡ sound → Ending w
-    go true w h = broken-unsound h
-    go false (ends p) h = record { end = p; is = refl }
-    go false (broken p) h = broken-unsound h
-    go false short h = broken-unsound h
+    rest : ℕ → Walk
+    rest p = fifth (length book) p (drop p (numbersOf book))
+
+    go : (t : Bool) (w : Walk) → ltb largestBook (length book) ≡ t → sections always (numbersOf book) ≡ w
+        → cond t (brokenAt largestBook) (checkedAs (length book) (thenFrom w rest)) ≡ sound → Whole book
+    go true w p q h = broken-unsound h
+    go false (broken n) p q h = broken-unsound h
+    go false short p q h = broken-unsound h
+    go false (ends n) p q h = next (rest n) refl h
+      where
+        end : n ≡ fourthEnd book
+        end = fourth-ends (numbersOf book) n q
+
+        next : (w : Walk) → rest n ≡ w → checkedAs (length book) (shift n w) ≡ sound → Whole book
+        next (ends m) f g =
+            by-le (length book) (2 * (n + m))
+            (λ l.
+            record {
+              fourth = rw (← end) q;
+              size = m;
+              after = rw (← end) f;
+              up-to = rw (← end) l;
+              not-long = ltb-false largestBook (length book) p;
+            })
+            (λ l. broken-unsound (sym (after-end (length book) (n + m) l) ∙ g))
+        next (broken m) f g = broken-unsound g
+        next short f g = broken-unsound g
+
+-- where no byte follows the fourth section, no number does
+pub no-fifth : (book : List ℕ) → length book ≤ 2 * fourthEnd book → sectionFrom 4 (numbersOf book) ≡ []
+no-fifth book h =
+    drop-of-length-le (numbersOf book) {i = fourthEnd book} (omega (arith, numbers-low book))
+
+-- where what follows the fourth section ends, nothing does, or a section that has an entry
+pub fifth-ended : {P : Type 0} (len p : ℕ) (rest : List ℕ) (s : ℕ) → fifth len p rest ≡ ends s
+    → (len ≤ 2 * p → s ≡ 0 → P) → (2 * p < len → 0 < getD rest 0 0 → section sigma rest ≡ ends s → P) → P
+fifth-ended {P} len p rest s e none some =
+    by-fifth len p rest (λ w. w ≡ ends s → P) (λ h e. none h (sym (ends-one e))) (λ h l z. broken-no-end)
+    (λ h c e.
+    by-le (length rest) 0 (λ l. short-no-end (sym (section-short sigma rest (omega arith)) ∙ e))
+    (λ l. some h (c l) e))
+    e
 
 pub same-key : (a b : List ℕ) → sameKey a b ≡ true → a ≡ b
 unfolding sameKey
@@ -296,18 +348,39 @@ module _ (bytes : List ℕ) (good : checkBook bytes ≡ sound) (j : ℕ) (within
   deep : Deep k
   deep = (key-there j within-order, entry-deep j within-order)
 
-  at-section : Section kinds (numbersOf bytes) j
-  at-section =
-      let s = sound-ends bytes good in
-      sections-at kinds (λ i h. (key-there i h, entry-deep i h)) (numbersOf bytes) (s .end) (s .is) j within-order
+  whole : Whole bytes
+  whole = sound-whole bytes good
 
+  -- one of the four that every book has
+  at-section : j ≤ 3 → Section always (numbersOf bytes) j
+  at-section h = sections-at always always-deep (numbersOf bytes) (fourthEnd bytes) (whole .fourth) j (omega arith)
+
+  pub starts : sections (take j kinds) (numbersOf bytes) ≡ ends (sectionAt kinds j (numbersOf bytes))
+  starts =
+      by-le j 3
+      (λ h.
+      rw (← always-take j within-order, ← always-at (numbersOf bytes) j within-order) (at-section h .starts))
+      (λ h. let z : j ≡ 4 = omega arith in rw z (whole .fourth))
+
+  -- a fifth that is not there has no entries
   entries-end : Ending (entries k (getD start 0 0) [] (drop 1 start))
-  entries-end = section-entries k start (at-section .end) (at-section .stops)
+  unfolding entries
+  entries-end =
+      by-le j 3
+      (λ h.
+      section-entries k start (at-section h .end)
+      (rw (← always-kind j within-order, ← always-at (numbersOf bytes) j within-order) (at-section h .stops)))
+      (λ h.
+      let z : j ≡ 4 = omega arith in
+      rw z
+      (fifth-ended (length bytes) (fourthEnd bytes) (sectionFrom 4 (numbersOf bytes)) (whole .size) (whole .after)
+      (λ l e. rw (no-fifth bytes l) (record { end = 0; is = refl }))
+      (λ l some e. section-entries sigma (sectionFrom 4 (numbersOf bytes)) (whole .size) e)))
 
   look-up-is : (severity letter column : ℕ) → lookUp j severity letter column (numbersOf bytes)
       ≡ seek k (keyFor k severity letter column) (getD start 0 0) (drop 1 start)
   unfolding lookUp seekIn
-  look-up-is severity letter column = rw (at-section .starts)
+  look-up-is severity letter column = rw starts
 
   pub entry-ending : (i : ℕ) → i < getD start 0 0
       → entry k (keyBefore k [] i (drop 1 start)) (drop (entryAt k i (drop 1 start)) (drop 1 start))

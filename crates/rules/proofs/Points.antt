@@ -23,6 +23,7 @@ use Rattle.rules.specs.Severity.{earnsThree, stagedPoints, onTightened, 
 use Rattle.rules.specs.History.{byteOf, ours, eventOf, eventIn}
 use Rattle.rules.specs.Book.{checkBook, checkedAs, sections, section, entries, entry, shift, thenFrom, keyFalls}
 use Rattle.rules.specs.Book.{rises, numbersFrom, right, stagedRule, stagedNumber, acKeeps, reKeeps, sameKey}
+use Rattle.rules.specs.Book.{fifth, allSections}
 use Rattle.rules.specs.Book.{seek, seekIn, lookUp, every}
 use Rattle.rules.specs.Entries.{eventFor, Closed, Offered, singleCounts, stagedCounts, plainPlan, stagedPlan}
 use Rattle.rules.specs.Entries.{judgeTotal}
@@ -205,7 +206,8 @@ stagedCases =
 pub staged-points-closed : AllAsSaid stagedCases
 unfolding stagedCases byStages acceptedAfter byFive fromFive onTight offered ofB figures closedAs ofThree numberBytes
     inStages rising closeStaged judgeStaged letterOf rowOf rowFrom stagedPlan checkBook numbersOf checkedAs sections
-    section entries entry shift thenFrom keyFalls rises numbersFrom right stagedRule stagedNumber acKeeps reKeeps
-    sameKey seek seekIn lookUp every totalSize judgeStages stagedFrom stagesFrom stageDecides takeItems move
+    fifth allSections section entries entry shift thenFrom keyFalls rises numbersFrom right stagedRule stagedNumber
+    acKeeps reKeeps sameKey seek seekIn lookUp every totalSize judgeStages stagedFrom stagesFrom stageDecides takeItems
+    move
     cleanInRange step onLot onResubmitted figuresInRange lib.Count.ones
 staged-points-closed = refl

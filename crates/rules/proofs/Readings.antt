@@ -1,9 +1,9 @@
--- The s method and the screen: the sums of one reading more, each test in natural numbers, where an integer is a
--- difference of two, and each answer.
+-- The s method, a known spread and the screen: the sums of one reading more, each test in natural numbers, where an
+-- integer is a difference of two, and each answer.
 -- Assumes nothing.
 use Prim.Native.Nat.{ℕ, _+_, _*_, _-_, _/_, _%_, _≤_, _<_}
 use mathlib.Core.Path.{_≡_, refl, sym, _∙_}
-use mathlib.Core.Bool.{Bool, true, false, _&&_}
+use mathlib.Core.Bool.{Bool, true, false, _&&_, not, true≢false, false≢true}
 use mathlib.Core.List.{List, [], _∷_, _++_}
 use native.Mathlib.Nat.{mul-add, mul-comm, mul-left-comm, mul-assoc}
 use native.Mathlib.Omega.{arith}
@@ -11,12 +11,15 @@ use borrow.Author.Tests.{le-leb, lt-leb, lt-ltb, le-ltb, eq-eqb, ne-eqb}
 use lib.Dec.{leb}
 use lib.IntN.{ℤ, pos, negsuc, _+ℤ_, _*ℤ_, +ℤ-idl, +ℤ-idr, +ℤ-assoc}
 use lib.ListN.{length}
-use Rattle.rules.specs.Refusals.{refused, given, noPlan, wrongLength, outOfRange}
+use Rattle.rules.specs.Refusals.{Answer, refused, given, _gives_, firstOf, noPlan, wrongLength, outOfRange}
+use Rattle.rules.specs.Verdict.{Verdict}
 use Rattle.rules.specs.Book.{couldHold, variables}
 use Rattle.rules.specs.Variables.{inGauge, allInGauge, readingsOf, sumZ, squaresZ, spread, margin}
-use Rattle.rules.specs.Variables.{withinSpread, acceptsReadings, readingsVerdict, judgeReadings}
+use Rattle.rules.specs.Variables.{withinSpread}
+use Rattle.rules.specs.Limits.{Spread, Limits, SidesPlan, sideOf, withinSigma, acceptsLimits, spreadIn, limitsIn}
+use Rattle.rules.specs.Limits.{readingsVerdict, judgeReadings}
 use Rattle.rules.specs.Screen.{shownOf, screen}
-use Rattle.rules.specs.Entries.{variablesEntry, variablesSample}
+use Rattle.rules.specs.Entries.{variablesEntry, readingsSample}
 use Rattle.rules.proofs.Diff.{Diff, move, diff-pos, diff-minus, diff-mul, diff-le, diff-unique, leb-same}
 
 pub sum-snoc : (xs : List ℤ) (x : ℤ) → sumZ (xs ++ x ∷ []) ≡ sumZ xs +ℤ x
@@ -81,44 +84,67 @@ module _ (n k high low a b : ℕ) (m v : ℤ) (hm : Diff m high low) where
       (diff-le (diff-mul (diff-pos w) hv) (diff-pos r)
       ∙ leb-same (w * a + 0 * b + 0) (r + (w * b + 0 * a)) (w * a) (r + w * b) (omega arith) (omega arith))
 
+-- .. and so is that of a known spread: 1,000,000 (nU − S) ≥ K · sigma · n, with no difference taken
+pub within-sigma-is : (n k sigma high low : ℕ) (m : ℤ) → Diff m high low
+    → withinSigma n k sigma m ≡ leb (k * sigma * n + 1000000 * low) (1000000 * high)
+unfolding withinSigma
+within-sigma-is n k sigma high low m hm =
+    diff-le (diff-pos (k * sigma * n)) (diff-mul (diff-pos 1000000) hm)
+    ∙ leb-same (k * sigma * n + (1000000 * low + 0 * high)) (1000000 * high + 0 * low + 0)
+    (k * sigma * n + 1000000 * low) (1000000 * high) (omega arith) (omega arith)
+
 -- each answer on a sample, by what is known where it is given
-module _ (upper : Bool) (n k : ℕ) (limit : ℤ) (bytes : List ℕ) where
-  pub sample-unheld : couldHold variables (variablesEntry (record { n = n; k = k })) ≡ false
-      → variablesSample upper (record { n = n; k = k }) limit bytes ≡ refused noPlan 0
-  unfolding variablesSample
-  sample-unheld h = rw h refl
+module _ (m : Spread) (limits : Limits) (p : SidesPlan) (bytes : List ℕ) where
+  -- could a sound book hold the plan of a side?
+  abbrev holds : Bool → Bool
+  holds upper = couldHold variables (variablesEntry (sideOf upper p))
 
-  module _ (h : couldHold variables (variablesEntry (record { n = n; k = k })) ≡ true) where
-    on-plan : variablesSample upper (record { n = n; k = k }) limit bytes
-        ≡ judgeReadings upper (record { n = n; k = k }) limit bytes
-    unfolding variablesSample
-    on-plan = rw h refl
+  either-refuses : (a b : Bool) (x : Answer Verdict) → (a && b) ≡ false
+      → firstOf ((not a gives noPlan) ∷ (not b gives noPlan) ∷ []) x ≡ refused noPlan 0
+  either-refuses true true x h = absurd (true≢false h)
+  either-refuses true false x h = refl
+  either-refuses false b x h = refl
 
-    pub sample-length : (length bytes ≡ 2 * n → ⊥)
-        → variablesSample upper (record { n = n; k = k }) limit bytes ≡ refused wrongLength 0
+  neither-refuses : (a b : Bool) (x : Answer Verdict) → (a && b) ≡ true
+      → firstOf ((not a gives noPlan) ∷ (not b gives noPlan) ∷ []) x ≡ x
+  neither-refuses true true x h = refl
+  neither-refuses true false x h = absurd (false≢true h)
+  neither-refuses false b x h = absurd (false≢true h)
+
+  pub sample-unheld : (holds true && holds false) ≡ false → readingsSample m limits p bytes ≡ refused noPlan 0
+  unfolding readingsSample
+  sample-unheld h = either-refuses (holds true) (holds false) (judgeReadings m limits p bytes) h
+
+  module _ (h : (holds true && holds false) ≡ true) where
+    on-plan : readingsSample m limits p bytes ≡ judgeReadings m limits p bytes
+    unfolding readingsSample
+    on-plan = neither-refuses (holds true) (holds false) (judgeReadings m limits p bytes) h
+
+    pub sample-length : (length bytes ≡ 2 * p .n → ⊥) → readingsSample m limits p bytes ≡ refused wrongLength 0
     unfolding judgeReadings
-    sample-length e = on-plan ∙ rw (ne-eqb (length bytes) (2 * n) e) refl
+    sample-length e = on-plan ∙ rw (ne-eqb (length bytes) (2 * p .n) e) refl
 
-    module _ (e : length bytes ≡ 2 * n) where
+    module _ (e : length bytes ≡ 2 * p .n) where
       pub sample-reading : allInGauge (readingsOf bytes) ≡ false
-          → variablesSample upper (record { n = n; k = k }) limit bytes ≡ refused outOfRange 0
+          → readingsSample m limits p bytes ≡ refused outOfRange 0
       unfolding judgeReadings
-      sample-reading a = on-plan ∙ rw (eq-eqb (length bytes) (2 * n) e, a) refl
+      sample-reading a = on-plan ∙ rw (eq-eqb (length bytes) (2 * p .n) e, a) refl
 
       module _ (a : allInGauge (readingsOf bytes) ≡ true) where
-        pub sample-limit : inGauge limit ≡ false
-            → variablesSample upper (record { n = n; k = k }) limit bytes ≡ refused outOfRange 0
+        pub sample-sigma : spreadIn m ≡ false → readingsSample m limits p bytes ≡ refused outOfRange 0
         unfolding judgeReadings
-        sample-limit g = on-plan ∙ rw (eq-eqb (length bytes) (2 * n) e, a, g) refl
+        sample-sigma g = on-plan ∙ rw (eq-eqb (length bytes) (2 * p .n) e, a, g) refl
 
-        pub sample-judged : inGauge limit ≡ true
-            → variablesSample upper (record { n = n; k = k }) limit bytes
-            ≡ given
-            (readingsVerdict (record { n = n; k = k })
-            (withinSpread n k (margin upper n (sumZ (readingsOf bytes)) limit)
-            (spread n (sumZ (readingsOf bytes)) (squaresZ (readingsOf bytes)))))
-        unfolding judgeReadings acceptsReadings
-        sample-judged g = on-plan ∙ rw (eq-eqb (length bytes) (2 * n) e, a, g) refl
+        module _ (s : spreadIn m ≡ true) where
+          pub sample-limits : limitsIn limits ≡ false → readingsSample m limits p bytes ≡ refused outOfRange 0
+          unfolding judgeReadings
+          sample-limits g = on-plan ∙ rw (eq-eqb (length bytes) (2 * p .n) e, a, s, g) refl
+
+          pub sample-judged : limitsIn limits ≡ true
+              → readingsSample m limits p bytes
+              ≡ given (readingsVerdict (p .n) (acceptsLimits m limits p (readingsOf bytes)))
+          unfolding judgeReadings
+          sample-judged g = on-plan ∙ rw (eq-eqb (length bytes) (2 * p .n) e, a, s, g) refl
 
 module _ (bytes : List ℕ) where
   pub screen-half : length bytes % 2 ≡ 1 → screen bytes ≡ refused wrongLength 0

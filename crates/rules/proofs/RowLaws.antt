@@ -1,4 +1,4 @@
--- Rows of entries: what each of the four kinds keeps of them, an entry in a row, and a row filled from an entry. Proved
+-- Rows of entries: what each of the five kinds keeps of them, an entry in a row, and a row filled from an entry. Proved
 -- once over the kinds.
 -- Assumes nothing.
 use Prim.Native.Nat.{ℕ, zero, suc, _+_, _-_, _/_, _%_, _≤_, _<_}
@@ -113,7 +113,12 @@ staged-rowed =
       figures = key-of-three staged (omega arith) (omega arith) (omega arith) (omega arith) (omega arith);
     }
 
-pub rowed : (j : ℕ) → j < 4 → Rowed (kindAt j)
+variables-rowed : Rowed variables
+variables-rowed =
+    as-stands variables 5 (omega arith) (omega arith) (λ m. refl) refl (λ m i. refl)
+    (key-of-three variables (omega arith) (omega arith) (omega arith) (omega arith) (omega arith))
+
+pub rowed : (j : ℕ) → j < 5 → Rowed (kindAt j)
 rowed =
     each-kind (λ j. Rowed (kindAt j))
     (as-stands reducedSingles 4 (omega arith) (omega arith) (λ m. refl) refl (λ m i. refl)
@@ -122,19 +127,18 @@ rowed =
     staged-rowed
     (as-stands sequential 8 (omega arith) (omega arith) (λ m. refl) refl (λ m i. refl)
     (key-of-three sequential (omega arith) (omega arith) (omega arith) (omega arith) (omega arith)))
-    (as-stands variables 5 (omega arith) (omega arith) (λ m. refl) refl (λ m i. refl)
-    (key-of-three variables (omega arith) (omega arith) (omega arith) (omega arith) (omega arith)))
+    variables-rowed variables-rowed
 
 -- every kind but the staged one: its entries are as long as a row, and stand in it as they are
 pub record Plain (k : Kind) : Type 0 where
   pub long : (m : ℕ) → k .size m ≡ k .width
   pub same : (m i : ℕ) → k .inRow m i ≡ i
 
-pub plain : (j : ℕ) → j < 4 → (j ≡ 1 → ⊥) → Plain (kindAt j)
+pub plain : (j : ℕ) → j < 5 → (j ≡ 1 → ⊥) → Plain (kindAt j)
 plain =
     each-kind (λ j. (j ≡ 1 → ⊥) → Plain (kindAt j)) (λ h. record { long = λ m. refl; same = λ m i. refl })
     (λ h. absurd (h refl)) (λ h. record { long = λ m. refl; same = λ m i. refl })
-    (λ h. record { long = λ m. refl; same = λ m i. refl })
+    (λ h. record { long = λ m. refl; same = λ m i. refl }) (λ h. record { long = λ m. refl; same = λ m i. refl })
 
 -- ---- numbers gathered from a row
 

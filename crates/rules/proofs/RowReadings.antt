@@ -83,10 +83,10 @@ module _ (k : Kind) (r : Rowed k) (long : (m : ℕ) → k .size m ≡ k .width) 
       ap (rowOf k) (plain-entry row l) ∙ plain-row row (omega arith) ∙ take-all (k .width) row (omega arith)
 
 -- a row of any kind but the staged one is its entry, and is read back as it was
-pub other-row : (j : ℕ) → j < 4 → (j ≡ 1 → ⊥) → (e : List ℕ) → kindAt j .width ≤ length e
+pub other-row : (j : ℕ) → j < 5 → (j ≡ 1 → ⊥) → (e : List ℕ) → kindAt j .width ≤ length e
     → rowOf (kindAt j) e ≡ take (kindAt j .width) e
 other-row j l h = let p = RowLaws.plain j l h in plain-row (kindAt j) (rowed j l) (p .long) (p .same)
 
-pub other-tidy : (j : ℕ) → j < 4 → (j ≡ 1 → ⊥) → (row : List ℕ) → length row ≡ kindAt j .width
+pub other-tidy : (j : ℕ) → j < 5 → (j ≡ 1 → ⊥) → (row : List ℕ) → length row ≡ kindAt j .width
     → tidy (kindAt j) row ≡ row
 other-tidy j l h = let p = RowLaws.plain j l h in plain-tidy (kindAt j) (rowed j l) (p .long) (p .same)

@@ -9,7 +9,6 @@ use native.Mathlib.Omega.{arith}
 use mathlib.Core.Logic.{_⊎_, inl, inr}
 use borrow.Author.Tests.{le-leb, leb-false}
 use lib.Dec.{leb, eqb}
-use lib.IntN.{ℤ}
 use lib.ListN.{length, getD, List·getD-eq-default}
 use Rattle.rules.specs.Refusals.{Answer, refused, given, andThen, notStopped}
 use Rattle.rules.specs.Codes.{tightened, stopped}
@@ -26,7 +25,8 @@ use Rattle.rules.specs.Entries.{Asked, Closed, Offered, eventFor, single
 use Rattle.rules.specs.Entries.{fractionalEvent, onSupply, moved, next}
 use Rattle.rules.specs.Entries.{closeSingle, closeCurtailed, closeStaged, closeTotal}
 use Rattle.rules.specs.Entries.{closeFractional, originOf, singleCounts, stagedCounts, asSingle}
-use Rattle.rules.specs.Runs.{Call, single, curtailed, fractional, staged, total, byte, sequential, variables}
+use Rattle.rules.specs.Limits.{Spread, Limits}
+use Rattle.rules.specs.Runs.{Call, single, curtailed, fractional, staged, total, byte, sequential, readings}
 use Rattle.rules.specs.Runs.{Entered, enters}
 use Rattle.rules.specs.Runs.{nothing, enteredBy, enteredAs, entered, isResubmission, withoutResubmissions}
 use Rattle.rules.specs.Runs.{supplyBy, eventsBy, ran}
@@ -108,10 +108,11 @@ module _ (w : Work) (cs : List Call) where
   unfolding entered
   sequential-idle q book sample = call-idle (sequential q book sample) refl
 
-  pub variables-idle : (upper : Bool) (q : Asked) (book : List ℕ) (limit : ℤ) (readings : List ℕ)
-      → Idle w cs (variables upper q book limit readings)
+  -- by either method, for one limit or two
+  pub readings-idle : (m : Spread) (limits : Limits) (q : Asked) (lower : ℕ) (book sample : List ℕ)
+      → Idle w cs (readings m limits q lower book sample)
   unfolding entered
-  variables-idle upper q book limit readings = call-idle (variables upper q book limit readings) refl
+  readings-idle m limits q lower book sample = call-idle (readings m limits q lower book sample) refl
 
 -- What is entered is what the event makes of the supply; the event counts as it stands, and is one of these.
 abbrev Enters : (Event → Type 0) → Supply → Entered → Type 0
@@ -148,7 +149,7 @@ Stands P w (total o d) = (l : Lot) → P (eventFor o sampled l)
 Stands P w (byte b) = P (eventIn w b)
 Stands P w (event e) = (s : Supply) → P (countsOn s e)
 Stands P w (sequential q book sample) = Unit {0}
-Stands P w (variables upper q book limit readings) = Unit {0}
+Stands P w (readings m limits q lower book sample) = Unit {0}
 
 call-enters : (P : Event → Type 0) (w : Work) (s : Supply) (c : Call) → Stands P w c → Enters P s (entered w s c)
 unfolding entered next
@@ -177,7 +178,7 @@ call-enters P w s (byte b) p =
     rw q at (entered-as P s (eventIn w b) (rw q p))
 call-enters P w s (event e) p = entered-as P s e (p s)
 call-enters P w s (sequential q book sample) p = tt
-call-enters P w s (variables upper q book limit readings) p = tt
+call-enters P w s (readings m limits q lower book sample) p = tt
 
 anything : (w : Work) (c : Call) → Stands (λ e. Unit {0}) w c
 anything w (single o book sample) = λ l. tt
@@ -188,7 +189,7 @@ anything w (total o d) = λ l. tt
 anything w (byte b) = tt
 anything w (event e) = λ s. tt
 anything w (sequential q book sample) = tt
-anything w (variables upper q book limit readings) = tt
+anything w (readings m limits q lower book sample) = tt
 
 -- The record after any run from a fresh record is that after the events that its calls stand for, which are not
 -- refused.
@@ -311,7 +312,7 @@ resubmission w (total o d) h = λ l. rw h
 resubmission w (byte b) h = is-resubmitted (eventIn w b) h
 resubmission w (event e) h = λ s. ap (countsOn s) (is-resubmitted e h)
 resubmission w (sequential q book sample) h = tt
-resubmission w (variables upper q book limit readings) h = tt
+resubmission w (readings m limits q lower book sample) h = tt
 
 -- A call with a resubmitted lot, put into a run or left out anywhere, changes no record of the rest.
 pub ran-resubmitted : (w : Work) (later : List Call) (c : Call) (cs : List Call) → isResubmission w c ≡ true
@@ -354,7 +355,7 @@ corrective-call w (total o d) = λ l h. absurd (not-corrective o sampled l h)
 corrective-call w (byte b) = λ h. inl (ap byte (corrective-byte w b h))
 corrective-call w (event e) = λ s h. inr (ap event (corrective-counts s e h))
 corrective-call w (sequential q book sample) = tt
-corrective-call w (variables upper q book limit readings) = tt
+corrective-call w (readings m limits q lower book sample) = tt
 
 -- One call more enters nothing, or one event, which counts as it stands and is one of these.
 entering : (P : Event → Type 0) (w : Work) (c : Call) (cs : List Call) → Stands P w c
@@ -410,7 +411,7 @@ call-enters-as w c cs = enters-one (EntersAs w c) w c cs (labels c)
     labels (byte b) = refl
     labels (event e) = λ s. tt
     labels (sequential q book sample) = tt
-    labels (variables upper q book limit readings) = tt
+    labels (readings m limits q lower book sample) = tt
 
 -- What holds of each event that a call enters, with the severity that the written reading then finds.
 pub by-call : (w : Work) (c : Call) (cs : List Call) (P : Event → ℕ → Type 0)

@@ -1,30 +1,25 @@
--- A sample of items and one of readings, judged on a plan: what is refused, and what is given.
+-- A sample of items, judged on a plan: what is refused, and what is given; and which readings a screen shows.
 -- Assumes nothing.
 use Prim.Native.Nat.{ℕ, _*_, _%_, _/_, _≤_}
-use mathlib.Core.Path.{_≡_, refl, sym, ap}
+use mathlib.Core.Path.{_≡_, refl, ap}
 use mathlib.Core.Logic.{_↔_}
-use mathlib.Core.Bool.{Bool, true, false, _||_, not, false≢true, or-true}
+use mathlib.Core.Bool.{Bool, true, false, _||_, not}
 use mathlib.Core.List.{List}
 use native.Mathlib.Nat.{le-refl}
 use native.Mathlib.Omega.{arith}
 use borrow.Author.Tests.{ltb-false, le-ltb, eqb-true, eqb-false, eq-eqb, ne-eqb, not-true, not-false}
 use lib.Dec.{ltb, eqb}
-use lib.IntN.{ℤ}
 use lib.ListN.{length}
 use Rattle.rules.specs.Refusals.{given}
 use Rattle.rules.specs.Numbers.{halfLeft, numbersOf, sumOf}
 use Rattle.rules.specs.Codes.{anyIllegal}
 use Rattle.rules.specs.Verdict.{Verdict}
 use Rattle.rules.specs.Single.{Plan, singleVerdict, judgeItems}
-use Rattle.rules.specs.Variables.{VariablesPlan, readingsVerdict, allInGauge, readingsOf, judgeReadings, inGauge}
-use Rattle.rules.specs.Variables.{acceptsReadings}
 use Rattle.rules.specs.Reporting.{Reports}
-use Rattle.rules.specs.Judging.{Fits, ItemRows, ItemsJudged, OutOfGauge, ReadingRows}
-use Rattle.rules.specs.Judging.{ReadingsJudged, reading, the-limit}
+use Rattle.rules.specs.Judging.{Fits, ItemRows, ItemsJudged}
 use Rattle.rules.proofs.Bools.{or-neither}
 use Rattle.rules.proofs.Refusals.{check, nothing-wrong}
 use Rattle.rules.proofs.EntryLaws.{two-given}
-use Rattle.rules.proofs.SMethod.{out-means, out-when, all-in}
 use Rattle.rules.proofs.Items.{any-means, any-when, all-legal}
 
 -- A single sample. 7 where it is not exactly the plan's n items, 8 for an item over 1 where items are 0 or 1.
@@ -61,60 +56,6 @@ module _ (column : ℕ) (sample : List ℕ) (plan : Plan) where
           × (anyIllegal column (numbersOf sample) ≡ false)
           × (singleVerdict plan (sumOf (numbersOf sample)) ≡ v))
       two = two-given _ _ 7 8 _ v
-
--- Readings. 7 where there are not exactly the plan's n, 9 for a reading or the limit out of range.
-module _ (upper : Bool) (limit : ℤ) (bytes : List ℕ) (plan : VariablesPlan) where
-  out-so : (a b : Bool) → allInGauge (readingsOf bytes) ≡ a → inGauge limit ≡ b → (not a || not b) ≡ true
-      → OutOfGauge limit bytes
-  out-so false b e f t = reading (out-means (readingsOf bytes) e)
-  out-so true false e f t = the-limit f
-  out-so true true e f t = absurd (false≢true t)
-
-  out-then : OutOfGauge limit bytes → (not (allInGauge (readingsOf bytes)) || not (inGauge limit)) ≡ true
-  out-then (reading o) = rw (out-when (readingsOf bytes) o)
-  out-then (the-limit e) = rw e (or-true (not (allInGauge (readingsOf bytes))))
-
-  pub readings-refused : Reports 7 (ReadingRows limit bytes plan) (judgeReadings upper plan limit bytes)
-  unfolding judgeReadings
-  readings-refused =
-      check 7 (not (eqb (length bytes) (2 * plan .n)))
-      (λ t. eqb-false (length bytes) (2 * plan .n) (not-true (eqb (length bytes) (2 * plan .n)) t))
-      (λ w. ap not (ne-eqb (length bytes) (2 * plan .n) w)) (omega arith)
-      (check 9 (not (allInGauge (readingsOf bytes)) || not (inGauge limit))
-      (out-so (allInGauge (readingsOf bytes)) (inGauge limit) refl refl) out-then (le-refl 9) nothing-wrong)
-
-  in-both : (a b : Bool) → (not a || not b) ≡ false → (a ≡ true) × (b ≡ true)
-  in-both true true e = (refl, refl)
-  in-both true false e = absurd (false≢true (sym e))
-  in-both false b e = absurd (false≢true (sym e))
-
-  pub readings-given : (v : Verdict) →
-      (judgeReadings upper plan limit bytes ≡ given v) ↔ ReadingsJudged upper limit bytes plan v
-  unfolding judgeReadings
-  readings-given v = (
-    λ g.
-        let h = two .0 g in
-        let i = in-both (allInGauge (readingsOf bytes)) (inGauge limit) (h .1) in
-        record {
-          whole = eqb-true (length bytes) (2 * plan .n) (not-false (eqb (length bytes) (2 * plan .n)) (h .0));
-          readings-in = all-in (readingsOf bytes) .0 (i .0);
-          limit-in = i .1;
-          verdict = h .2;
-        },
-    λ j.
-        two .1 (
-          ap not (eq-eqb (length bytes) (2 * plan .n) (j .whole)),
-          rw
-              (all-in (readingsOf bytes) .1 (j .readings-in), j .limit-in),
-          j .verdict,
-        ),
-  )
-    where
-      two : (judgeReadings upper plan limit bytes ≡ given v)
-          ↔ ((not (eqb (length bytes) (2 * plan .n)) ≡ false)
-          × ((not (allInGauge (readingsOf bytes)) || not (inGauge limit)) ≡ false)
-          × (readingsVerdict plan (acceptsReadings upper plan limit (readingsOf bytes)) ≡ v))
-      two = two-given _ _ 7 9 _ v
 
 -- The readings that a screen shows: 1 to 50, none half there.
 module _ (bytes : List ℕ) where

@@ -8,16 +8,19 @@ use native.Mathlib.Omega.{arith}
 use native.Mathlib.Nat.{mul-le-mul}
 use native.Mathlib.Numerals.{add-one}
 use borrow.Author.Tests.{lt-ltb, le-ltb, le-leb, lt-leb, eq-eqb, ne-eqb}
-use lib.ListN.{length, getD, drop, take, drop-of-length-le, length-take, set}
+use lib.ListN.{length, getD, drop, take, drop-of-length-le, length-take, length-drop, set}
 use lib.Seq.{drop-cons, drop-drop, getD-take, length-take-le, take-suc-set}
 use lib.Dec.{eqb}
 use Rattle.rules.specs.Book.{Walk, ends, broken, short, shift, thenFrom, Kind, right, numbersFrom, sizeOf}
 use Rattle.rules.specs.Book.{keyOf, rises, keyFalls, entry, entries, sections, section, within, anything}
-use Rattle.rules.specs.Book.{kinds, checkBook, brokenAt, largestBook, sound, checkedAs, stagedRule}
+use Rattle.rules.specs.Book.{sigma, always, kinds, fifth, allSections, checkBook, brokenAt, largestBook, sound}
+use Rattle.rules.specs.Book.{checkedAs}
+use Rattle.rules.specs.Book.{stagedRule}
 use Rattle.rules.specs.Book.{stagedNumber, sequentialRule, atFits, found, nothing, keyFor, sameKey}
 use Rattle.rules.specs.Book.{seek, seekIn, lookUp, kindAt, every}
 use Rattle.rules.specs.Numbers.{numbersOf}
-use Rattle.rules.proofs.Walks.{shift-shift}
+use Rattle.rules.proofs.Bounded.{by-le}
+use Rattle.rules.proofs.Walks.{shift-shift, place, place-then, place-section, place-sections}
 
 one-less : (n i : ℕ) → i < n → n - i ≡ suc (n - (i + 1))
 one-less n i h = omega arith
@@ -174,12 +177,72 @@ module _ (k : Kind) (ws : List ℕ) where
   unfolding section
   section-is h = rw (drop-cons ws 0 0 h)
 
+-- what follows the fourth section, which ends before the number at place p of a book of so many bytes
+module _ (len p : ℕ) (rest : List ℕ) where
+  pub fifth-none : len ≤ 2 * p → fifth len p rest ≡ ends 0
+  unfolding fifth
+  fifth-none h = rw (le-leb len (2 * p) h)
+
+  pub fifth-empty : 2 * p < len → 0 < length rest → getD rest 0 0 ≡ 0 → fifth len p rest ≡ broken 0
+  unfolding fifth
+  fifth-empty h l z = rw (lt-leb len (2 * p) h, drop-cons rest 0 0 l, z)
+
+  pub fifth-is : 2 * p < len → (0 < length rest → 0 < getD rest 0 0) → fifth len p rest ≡ section sigma rest
+  unfolding fifth
+  fifth-is h some = go rest some
+    where
+      go : (r : List ℕ) → (0 < length r → 0 < getD r 0 0) → fifth len p r ≡ section sigma r
+      go [] s = rw (lt-leb len (2 * p) h)
+      go (count ∷ r) s =
+          rw (lt-leb len (2 * p) h, ne-eqb count 0 (λ z. let y : ⊥ = omega (arith, s (omega arith)) in absurd y))
+
+  -- nothing, a count of 0, or a section: what holds of each walk holds of the fifth's
+  pub by-fifth : (P : Walk → Type 0) → (len ≤ 2 * p → P (ends 0))
+      → (2 * p < len → 0 < length rest → getD rest 0 0 ≡ 0 → P (broken 0))
+      → (2 * p < len → (0 < length rest → 0 < getD rest 0 0) → P (section sigma rest)) → P (fifth len p rest)
+  by-fifth P none empty some =
+      by-le len (2 * p) (λ h. rw (fifth-none h) (none h))
+      (λ h.
+      by-le (length rest) 0 (λ l. there h (λ g. absurd (omega arith)))
+      (λ l.
+      by-le (getD rest 0 0) 0
+      (λ z. let e : getD rest 0 0 ≡ 0 = omega arith in rw (fifth-empty h l e) (empty h l e)) (λ z. there h (λ g. z))))
+    where
+      there : 2 * p < len → (0 < length rest → 0 < getD rest 0 0) → P (fifth len p rest)
+      there h c = rw (fifth-is h c) (some h c)
+
+  pub place-fifth : place (fifth len p rest) ≤ length rest
+  unfolding place
+  place-fifth =
+      by-fifth (λ w. place w ≤ length rest) (λ h. omega arith) (λ h l z. omega arith)
+      (λ h c. place-section sigma rest)
+
+-- the four sections, and then what follows them
+module _ (len : ℕ) (ws : List ℕ) where
+  pub all-next : (p : ℕ) → ends p ≡ sections always ws → allSections len ws ≡ shift p (fifth len p (drop p ws))
+  unfolding allSections thenFrom
+  all-next p q = rw (← q)
+
+  pub all-broken : (p : ℕ) → broken p ≡ sections always ws → allSections len ws ≡ broken p
+  unfolding allSections thenFrom
+  all-broken p q = rw (← q)
+
+  pub all-short : short ≡ sections always ws → allSections len ws ≡ short
+  unfolding allSections thenFrom
+  all-short q = rw (← q)
+
+pub place-all : (len : ℕ) (ws : List ℕ) → place (allSections len ws) ≤ length ws
+unfolding allSections
+place-all len ws =
+    place-then (length ws) (sections always ws) (λ p. fifth len p (drop p ws)) (place-sections always ws)
+    (λ s l. omega (arith, place-fifth len s (drop s ws), length-drop s ws))
+
 module _ (bytes : List ℕ) where
   pub book-long : 32768 < length bytes → checkBook bytes ≡ brokenAt largestBook
   unfolding checkBook
   book-long h = rw (lt-ltb 32768 (length bytes) h)
 
-  pub book-is : (w : Walk) → length bytes ≤ 32768 → w ≡ sections kinds (numbersOf bytes)
+  pub book-is : (w : Walk) → length bytes ≤ 32768 → w ≡ allSections (length bytes) (numbersOf bytes)
       → checkBook bytes ≡ checkedAs (length bytes) w
   unfolding checkBook
   book-is w h q = rw (le-ltb 32768 (length bytes) h, ← q)

@@ -74,7 +74,7 @@ place-shift s (ends p) = omega arith
 place-shift s (broken p) = omega arith
 place-shift s short = omega arith
 
-place-then : (m : ℕ) (w : Walk) (f : ℕ → Walk) → place w ≤ m → ((s : ℕ) → s ≤ m → place (f s) ≤ m - s)
+pub place-then : (m : ℕ) (w : Walk) (f : ℕ → Walk) → place w ≤ m → ((s : ℕ) → s ≤ m → place (f s) ≤ m - s)
     → place (thenFrom w f) ≤ m
 unfolding place thenFrom
 place-then m (ends s) f g h = omega (arith, place-shift s (f s), h s g)

@@ -9,7 +9,7 @@ use lib.ListN.{set, replicate}
 use Rattle.rules.specs.Numbers.{numbersOf, numberBytes}
 use Rattle.rules.specs.Book.{Checked, sound, brokenAt, checkBook, checkedAs, sections, section, entries, entry}
 use Rattle.rules.specs.Book.{keyFalls, rises, numbersFrom, right, stagedRule, stagedNumber, acKeeps, reKeeps}
-use Rattle.rules.specs.Book.{sequentialRule, atFits, shift, thenFrom}
+use Rattle.rules.specs.Book.{sequentialRule, atFits, shift, thenFrom, fifth, allSections}
 use Rattle.rules.proofs.Cases.{Case, AllAsSaid}
 
 -- a sound book of 44 numbers: two reduced singles, a staged plan, a sequential and a variables plan
@@ -43,10 +43,6 @@ cases =
     ∷ (replicate 7 0 is brokenAt 7)
     ∷ (numberBytes (2 ∷ 1 ∷ 0 ∷ 5 ∷ 0 ∷ 0 ∷ []) is brokenAt 12)
     ∷ (with 38 2 is brokenAt 88)
-    -- "the first byte after the fourth section": a byte, a number, an entry that no count names
-    ∷ (replicate 9 0 is brokenAt 8)
-    ∷ (replicate 10 0 is brokenAt 8)
-    ∷ (with 38 0 is brokenAt 78)
     -- "the entry's first number where its whole key doesn't rise": the same key, one lower by its second and by its
     -- first number, and a second number that is lower where the first rises
     ∷ (with 6 0 is brokenAt 10)
@@ -130,9 +126,38 @@ cases =
     ∷ (with 43 0 is brokenAt 86)
     ∷ (with 43 1 is sound)
     ∷ (with 43 4001 is brokenAt 86)
+    -- document 02, T-07: "at the fifth count when it is 0", whatever follows it; half of it is "half there"
+    ∷ (replicate 10 0 is brokenAt 8)
+    ∷ (replicate 10 0 ++ (1 ∷ 2 ∷ 3 ∷ []) is brokenAt 8)
+    ∷ (numberBytes (whole ++ (0 ∷ [])) is brokenAt 88)
+    ∷ (replicate 9 0 is brokenAt 9)
+    -- "a fifth book section laid out as the fourth": each number as low as it goes, and as high; after a whole book
+    ∷ (alone 4 (0 ∷ 0 ∷ 0 ∷ 2 ∷ 1 ∷ []) is sound)
+    ∷ (alone 4 (2 ∷ 15 ∷ 15 ∷ 50 ∷ 4000 ∷ []) is sound)
+    ∷ (numberBytes (whole ++ (1 ∷ 0 ∷ 0 ∷ 0 ∷ 2 ∷ 1 ∷ [])) is sound)
+    ∷ (alone 4 (3 ∷ 0 ∷ 0 ∷ 2 ∷ 1 ∷ []) is brokenAt 10)
+    ∷ (alone 4 (0 ∷ 16 ∷ 0 ∷ 2 ∷ 1 ∷ []) is brokenAt 12)
+    ∷ (alone 4 (0 ∷ 0 ∷ 16 ∷ 2 ∷ 1 ∷ []) is brokenAt 14)
+    ∷ (alone 4 (0 ∷ 0 ∷ 0 ∷ 1 ∷ 1 ∷ []) is brokenAt 16)
+    ∷ (alone 4 (0 ∷ 0 ∷ 0 ∷ 51 ∷ 1 ∷ []) is brokenAt 16)
+    ∷ (alone 4 (0 ∷ 0 ∷ 0 ∷ 2 ∷ 0 ∷ []) is brokenAt 18)
+    ∷ (alone 4 (0 ∷ 0 ∷ 0 ∷ 2 ∷ 4001 ∷ []) is brokenAt 18)
+    -- a key that rises, one that stays and one that falls
+    ∷ (numberBytes (0 ∷ 0 ∷ 0 ∷ 0 ∷ 2 ∷ 0 ∷ 0 ∷ 0 ∷ 2 ∷ 1 ∷ 0 ∷ 0 ∷ 1 ∷ 2 ∷ 1 ∷ []) is sound)
+    ∷ (numberBytes (0 ∷ 0 ∷ 0 ∷ 0 ∷ 2 ∷ 0 ∷ 0 ∷ 1 ∷ 2 ∷ 1 ∷ 0 ∷ 0 ∷ 1 ∷ 2 ∷ 1 ∷ []) is brokenAt 20)
+    ∷ (numberBytes (0 ∷ 0 ∷ 0 ∷ 0 ∷ 2 ∷ 0 ∷ 0 ∷ 1 ∷ 2 ∷ 1 ∷ 0 ∷ 0 ∷ 0 ∷ 2 ∷ 1 ∷ []) is brokenAt 20)
+    -- "the book's length where a number is missing or half there": an entry, a number, half a number
+    ∷ (numberBytes (0 ∷ 0 ∷ 0 ∷ 0 ∷ 1 ∷ []) is brokenAt 10)
+    ∷ (alone 4 (0 ∷ 0 ∷ 0 ∷ 2 ∷ []) is brokenAt 18)
+    ∷ (alone 4 (0 ∷ 0 ∷ 0 ∷ 2 ∷ []) ++ (1 ∷ []) is brokenAt 19)
+    -- "at the first byte after the fifth section in place of the fourth": a byte, a number; what stood after the fourth
+    -- is now the fifth, its count at 78
+    ∷ (alone 4 (0 ∷ 0 ∷ 0 ∷ 2 ∷ 1 ∷ []) ++ (0 ∷ []) is brokenAt 20)
+    ∷ (alone 4 (0 ∷ 0 ∷ 0 ∷ 2 ∷ 1 ∷ []) ++ (0 ∷ 0 ∷ []) is brokenAt 20)
+    ∷ (with 38 0 is brokenAt 80)
     ∷ []
 
 pub worked-books : AllAsSaid cases
 unfolding cases whole with alone checkBook numberBytes numbersOf checkedAs sections section entries entry shift thenFrom
-    keyFalls rises numbersFrom right stagedRule stagedNumber acKeeps reKeeps sequentialRule atFits
+    keyFalls rises numbersFrom right stagedRule stagedNumber acKeeps reKeeps sequentialRule atFits fifth allSections
 worked-books = refl

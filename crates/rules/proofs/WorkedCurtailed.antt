@@ -16,7 +16,7 @@ use Rattle.rules.specs.Severity.{onNormal, onTightened, onLot, onResubmi
 use Rattle.rules.specs.Supply.{noRun, Supply, supplyOf, move, cleanInRange}
 use Rattle.rules.specs.History.{byteOf}
 use Rattle.rules.specs.Book.{checkBook, checkedAs, sections, section, entries, entry, shift, thenFrom, keyFalls}
-use Rattle.rules.specs.Book.{rises, numbersFrom, right}
+use Rattle.rules.specs.Book.{rises, numbersFrom, right, fifth, allSections}
 use Rattle.rules.specs.Entries.{Closed, plainPlan, curtailedPlan, curtailedSample, judgeCurtailed}
 use Rattle.rules.specs.Entries.{closeCurtailed}
 use Rattle.rules.proofs.Cases.{Case, _is_, AllAsSaid}
@@ -117,8 +117,8 @@ sampleCases =
 pub curtailed-worked : AllAsSaid sampleCases
 unfolding sampleCases seals counts wholeLot onPlan threeBad judgedIn judgedAs verdictAs flag reducedBook numberBytes
     numbersOf judgeCurtailed curtailedPlan curtailedSample plainPlan tablePlan landing boxAt letterOf rowOf rowFrom
-    judgeUntilLost curtailedFrom checkBook checkedAs sections section entries entry shift thenFrom keyFalls rises
-    numbersFrom right
+    judgeUntilLost curtailedFrom checkBook checkedAs sections fifth allSections section entries entry shift thenFrom
+    keyFalls rises numbersFrom right
 curtailed-worked = refl
 
 -- lots closed on a normal record with score 5 and a clean run of 1, on K at 0.15, or on a tightened one with four not
@@ -159,6 +159,7 @@ closedCases =
 pub curtailed-closed : AllAsSaid closedCases
 unfolding closedCases closes closedAs fromFive fourBad threeBad numberBytes numbersOf closeCurtailed judgeCurtailed
     curtailedPlan plainPlan tablePlan landing boxAt tighterAc letterOf rowOf rowFrom judgeUntilLost curtailedFrom
-    checkBook checkedAs sections section entries shift thenFrom move cleanInRange step onLot onResubmitted
+    checkBook checkedAs sections fifth allSections section entries shift thenFrom move cleanInRange step onLot
+    onResubmitted
     figuresInRange hasFractionalPlan shareAt shareIn lib.Count.ones
 curtailed-closed = refl

@@ -23,11 +23,13 @@ use Rattle.rules.specs.Fractional.{judgeByShare}
 use Rattle.rules.specs.Supply.{CleanRun, noRun, Supply, supplyOf, freshSupply, move, cleanInRange, supplyInRange}
 use Rattle.rules.specs.Book.{checkBook, checkedAs, sections, section, entries, entry, shift, thenFrom, keyFalls}
 use Rattle.rules.specs.Book.{rises, numbersFrom, right, stagedRule, stagedNumber, acKeeps, reKeeps, sameKey}
+use Rattle.rules.specs.Book.{fifth, allSections}
 use Rattle.rules.specs.Book.{seek, seekIn, lookUp, every}
 use Rattle.rules.specs.Entries.{Asked, Offered, Closed, singlePlan, fractionalPlan, stagedPlan, plainPlan, moved}
 use Rattle.rules.specs.Entries.{next, judgeSingle, judgeStaged, judgeTotal, judgeFractional, closeSingle}
 use Rattle.rules.specs.Entries.{closeStaged, closeTotal, closeFractional}
-use Rattle.rules.specs.Runs.{Call, single, fractional, staged, total, byte, event, sequential, variables, entered}
+use Rattle.rules.specs.Limits.{known, one}
+use Rattle.rules.specs.Runs.{Call, single, fractional, staged, total, byte, event, sequential, readings, entered}
 use Rattle.rules.specs.Runs.{ran}
 use Rattle.rules.proofs.Cases.{Case, _is_, AllAsSaid}
 
@@ -113,8 +115,8 @@ planCases =
 -- The plans of the mode.
 pub plans : AllAsSaid planCases
 unfolding planCases fractionalPlan singlePlan shareIn shareAt tablePlan landing boxAt letterOf rowOf rowFrom checkBook
-    numberBytes numbersOf checkedAs sections section entries entry shift thenFrom keyFalls rises numbersFrom right
-    sameKey seek seekIn lookUp every
+    numberBytes numbersOf checkedAs sections fifth allSections section entries entry shift thenFrom keyFalls rises
+    numbersFrom right sameKey seek seekIn lookUp every
 plans = refl
 
 -- a record without steady and permission: normal with its score and window, tightened with its run and count
@@ -265,7 +267,8 @@ closedCases =
 pub closings : AllAsSaid closedCases
 unfolding closedCases closeFractional judgeFractional judgeByShare fractionalPlan singlePlan shareIn shareAt
     hasFractionalPlan tablePlan landing boxAt tighterAc letterOf rowOf rowFrom checkBook numberBytes numbersOf checkedAs
-    sections section entries entry shift thenFrom keyFalls rises numbersFrom right sameKey seek seekIn lookUp every
+    sections fifth allSections section entries entry shift thenFrom keyFalls rises numbersFrom right sameKey seek seekIn
+    lookUp every
     judgeItems anyIllegal sumOf move cleanInRange step onLot onResubmitted figuresInRange lib.Count.ones
 closings = refl
 
@@ -333,7 +336,7 @@ runCases =
     ∷ (ran ours (fractional (offered true 8 6 15) noBook (items 3 0) ∷ onB 0 ∷ [])
     is supplyOf (scored 2 0) (clean 1 "B" 15))
     ∷ (afterTwo (sequential (asked normal 8 6 15) noBook [] ∷ []) is supplyOf (scored 4 0) (clean 2 "B" 15))
-    ∷ (afterTwo (variables true (asked normal 8 6 15) noBook (pos 0) [] ∷ [])
+    ∷ (afterTwo (readings (known 1) (one true (pos 0)) (asked normal 8 6 15) 15 noBook [] ∷ [])
     is supplyOf (scored 4 0) (clean 2 "B" 15))
     -- through what is refused: 10, 1, 6 and 7
     ∷ (afterTwo (byte 9 ∷ []) is supplyOf (scored 4 0) (clean 2 "B" 15))
@@ -359,10 +362,11 @@ runCases =
 pub runs : AllAsSaid runCases
 unfolding runCases ran entered next closeFractional judgeFractional judgeByShare fractionalPlan singlePlan shareIn
     shareAt hasFractionalPlan tablePlan landing boxAt tighterAc letterOf rowOf rowFrom checkBook numberBytes numbersOf
-    checkedAs sections section entries entry shift thenFrom keyFalls rises numbersFrom right stagedRule stagedNumber
-    acKeeps reKeeps sameKey seek seekIn lookUp every judgeItems anyIllegal sumOf judgeSingle closeSingle judgeTotal
-    closeTotal plainPlan stagedPlan totalSize judgeStages stagedFrom stagesFrom stageDecides takeItems judgeStaged
-    closeStaged move cleanInRange step onLot onResubmitted onOrder onCorrective figuresInRange eventIn eventOf
+    checkedAs sections fifth allSections section entries entry shift thenFrom keyFalls rises numbersFrom right
+    stagedRule stagedNumber acKeeps reKeeps sameKey seek seekIn lookUp every judgeItems anyIllegal sumOf judgeSingle
+    closeSingle judgeTotal closeTotal plainPlan stagedPlan totalSize judgeStages stagedFrom stagesFrom stageDecides
+    takeItems judgeStaged closeStaged move cleanInRange step onLot onResubmitted onOrder onCorrective figuresInRange
+    eventIn eventOf
     lib.Count.ones
 runs = refl
 
@@ -590,6 +594,7 @@ annexCases =
 pub annex : AllAsSaid annexCases
 unfolding annexCases annexToTen annexFromTwelve annexTwentyFour closeFractional judgeFractional judgeByShare
     fractionalPlan singlePlan shareIn shareAt hasFractionalPlan tablePlan landing boxAt tighterAc letterOf rowOf rowFrom
-    checkBook numberBytes numbersOf checkedAs sections section entries entry shift thenFrom keyFalls rises numbersFrom
+    checkBook numberBytes numbersOf checkedAs sections fifth allSections section entries entry shift thenFrom keyFalls
+    rises numbersFrom
     right judgeItems anyIllegal sumOf move cleanInRange step onLot figuresInRange lib.Count.ones
 annex = refl

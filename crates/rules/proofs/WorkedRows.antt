@@ -8,12 +8,13 @@ use lib.ListN.{take, set, replicate}
 use Rattle.rules.specs.Refusals.{Answer, refused, given}
 use Rattle.rules.specs.Numbers.{numbersOf, numberBytes}
 use Rattle.rules.specs.Book.{checkBook, checkedAs, sections, section, entries, entry, keyFalls, rises}
-use Rattle.rules.specs.Book.{numbersFrom}
+use Rattle.rules.specs.Book.{numbersFrom, fifth, allSections}
 use Rattle.rules.specs.Book.{right, stagedRule, stagedNumber, acKeeps, reKeeps, sequentialRule, atFits, shift}
 use Rattle.rules.specs.Book.{thenFrom, stagedInRow}
 use Rattle.rules.specs.Layout.{entryAt, sectionAt}
 use Rattle.rules.specs.Writing.{Rows, gathered, entryInRow, filled, rowOf, rowsIn, lentRows, rowRight, checkRows}
-use Rattle.rules.specs.Writing.{checkLists, laid, laidLists, writeBook, shown, readEntries, readEntry}
+use Rattle.rules.specs.Writing.{checkLists, laid, leftOut, laidSection, laidLists, writeBook, shown, readEntries}
+use Rattle.rules.specs.Writing.{readEntry}
 use Rattle.rules.proofs.Cases.{Case, _is_, AllAsSaid}
 
 -- two reduced singles
@@ -48,6 +49,16 @@ book =
     ++ (1 ∷ 1 ∷ 3 ∷ 10 ∷ 1750 ∷ 2247 ∷ 9570 ∷ 98 ∷ 9 ∷ [])
     ++ (1 ∷ 2 ∷ 15 ∷ 15 ∷ 3 ∷ 3500 ∷ []))
 
+-- document 02, T-07: the same lists with a fifth, and its book
+sigma : List ℕ
+sigma = 0 ∷ 0 ∷ 0 ∷ 2 ∷ 1 ∷ []
+
+abbrev five : List ℕ → List (List ℕ)
+five fifthList = lists ++ (numberBytes fifthList ∷ [])
+
+abbrev fiveBook : List ℕ
+fiveBook = book ++ numberBytes (1 ∷ sigma)
+
 -- the same lists with another one at a place of the order
 abbrev other : ℕ → List ℕ → ℕ → Rows
 other j list = lentRows (set lists j list)
@@ -73,6 +84,14 @@ cases =
     -- the first of several; a row cut short by a byte, and one of a byte
     ∷ (writeBook (lentRows (set (set lists 3 (0 ∷ [])) 1 (take 49 (numberBytes staged)))) 88 is refused 12 2)
     ∷ (writeBook (other 3 (0 ∷ [])) 88 is refused 12 4)
+    -- five lists; the fifth of none is left out; a bad entry in it, after the five before; no room
+    ∷ (writeBook (lentRows (five sigma)) 100 is given fiveBook)
+    ∷ (writeBook (lentRows (five [])) 88 is given book)
+    ∷ (writeBook (lentRows (five (set sigma 4 4001))) 100 is refused 12 5)
+    ∷ (writeBook (lentRows (five sigma)) 99 is refused 11 0)
+    ∷ (readEntry fiveBook 4 0 10 is given sigma)
+    ∷ (readEntry fiveBook 4 1 10 is refused 6 0)
+    ∷ (readEntry fiveBook 5 0 10 is refused 6 0)
     -- an entry shown, 0 past its stages; none, and a row too short
     ∷ (readEntry book 1 0 50
     is given
@@ -88,8 +107,8 @@ cases =
     ∷ []
 
 pub worked-rows : AllAsSaid cases
-unfolding reduced staged sequential variables lists book numbersOf numberBytes checkBook checkedAs sections section
-    entries entry keyFalls rises numbersFrom right stagedRule stagedNumber acKeeps reKeeps sequentialRule atFits shift
-    thenFrom stagedInRow entryAt sectionAt gathered entryInRow filled rowOf rowsIn rowRight checkRows checkLists laid
-    laidLists writeBook shown readEntries readEntry cases
+unfolding reduced staged sequential variables sigma lists book numbersOf numberBytes checkBook checkedAs allSections
+    fifth sections section entries entry keyFalls rises numbersFrom right stagedRule stagedNumber acKeeps reKeeps
+    sequentialRule atFits shift thenFrom stagedInRow entryAt sectionAt gathered entryInRow filled rowOf rowsIn rowRight
+    checkRows checkLists laid leftOut laidSection laidLists writeBook shown readEntries readEntry cases
 worked-rows = refl

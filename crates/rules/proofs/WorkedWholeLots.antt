@@ -1,5 +1,5 @@
--- Document 02, T-05, worked: plans whose size is below, at and above the lot, of the tables and of a book, the plans that
--- closed lots have, and the lines that lotlog prints of such lots.
+-- Document 02, T-05, worked: plans whose size is below, at and above the lot, of the tables and of a book, the plans
+-- that closed lots have, and the lines that lotlog prints of such lots.
 -- Assumes nothing.
 use Prim.Native.Nat.{ℕ}
 use mathlib.Core.Path.{_≡_, refl}
@@ -17,7 +17,7 @@ use Rattle.rules.specs.Severity.{onLot, onResubmitted, onOrder, onCorrec
 use Rattle.rules.specs.Supply.{Supply, freshSupply, move, cleanInRange}
 use Rattle.rules.specs.History.{ours, eventIn, eventOf}
 use Rattle.rules.specs.Book.{checkBook, checkedAs, sections, section, entries, entry, shift, thenFrom, keyFalls}
-use Rattle.rules.specs.Book.{rises, numbersFrom, right, lookUp, sameKey, seek, seekIn, every}
+use Rattle.rules.specs.Book.{rises, numbersFrom, right, lookUp, sameKey, seek, seekIn, every, fifth, allSections}
 use Rattle.rules.specs.Entries.{Offered, singlePlan, plainPlan, curtailedPlan, fractionalPlan, judgeSingle}
 use Rattle.rules.specs.Entries.{judgeCurtailed, judgeFractional, judgeTotal, closeSingle, closeCurtailed}
 use Rattle.rules.specs.Entries.{closeFractional, closeTotal, next}
@@ -67,8 +67,8 @@ sizeCases =
 
 pub whole-lots-worked : AllAsSaid sizeCases
 unfolding sizeCases planned figures book singlePlan tablePlan landing boxAt letterOf rowOf rowFrom checkBook numberBytes
-    numbersOf checkedAs sections section entries entry shift thenFrom keyFalls rises numbersFrom right lookUp
-    sameKey seek seekIn every
+    numbersOf checkedAs sections fifth allSections section entries entry shift thenFrom keyFalls rises numbersFrom right
+    lookUp sameKey seek seekIn every
 whole-lots-worked = refl
 
 -- n, the table's own size, and 1 where that is cut, of the plan that a closed lot has
@@ -88,8 +88,8 @@ new = freshSupply false
 clean : ℕ → List ℕ
 clean n = numberBytes (replicate n 0)
 
--- 10, II, 0.10, in full, curtailed, by its total, and in the mode of fractions, where it is on none; and two items, III,
--- 10, which are on one half
+-- 10, II, 0.10, in full, curtailed, by its total, and in the mode of fractions, where it is on none; and two items,
+-- III, 10, which are on one half
 pub closedCases : List (Case (List ℕ))
 closedCases =
     (told (λ c. c .judged .plan) (closeSingle new ten book (clean 10)) is (10 ∷ 125 ∷ 1 ∷ []))
@@ -102,10 +102,10 @@ closedCases =
     ∷ []
 
 pub whole-lots-closed : AllAsSaid closedCases
-unfolding closedCases told sizesOf ten new clean book closeSingle closeCurtailed closeTotal closeFractional
-    judgeSingle judgeCurtailed judgeTotal judgeFractional judgeItems judgeUntilLost curtailedFrom judgeByShare
-    singlePlan curtailedPlan plainPlan fractionalPlan shareIn shareAt hasFractionalPlan tablePlan landing boxAt
-    tighterAc letterOf rowOf rowFrom checkBook numberBytes numbersOf checkedAs sections section entries entry shift
+unfolding closedCases told sizesOf ten new clean book closeSingle closeCurtailed closeTotal closeFractional judgeSingle
+    judgeCurtailed judgeTotal judgeFractional judgeItems judgeUntilLost curtailedFrom judgeByShare singlePlan
+    curtailedPlan plainPlan fractionalPlan shareIn shareAt hasFractionalPlan tablePlan landing boxAt tighterAc letterOf
+    rowOf rowFrom checkBook numberBytes numbersOf checkedAs sections fifth allSections section entries entry shift
     thenFrom keyFalls rises numbersFrom right anyIllegal sumOf move cleanInRange step onLot figuresInRange
     lib.Count.ones
 whole-lots-closed = refl

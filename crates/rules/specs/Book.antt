@@ -1,5 +1,5 @@
--- Document 01, 'Plan book': its numbers, four kinds of section as data, the check with its byte, and the look-up.
--- Definitions only.
+-- Document 01, 'Plan book', with the fifth section of document 02, T-07: its numbers, the kinds of section as data, the
+-- check with its byte, and the look-up. Definitions only.
 -- Places are counted in numbers from the start of a stretch; `checkBook` turns them into bytes.
 use Prim.Native.Nat.{ℕ, zero, suc, _+_, _*_, _-_, _/_, _%_}
 use mathlib.Core.Bool.{Bool, true, false, cond, _&&_, _||_, not}
@@ -101,7 +101,7 @@ unfoldable pub section : Kind → List ℕ → Walk
 section k [] = short
 section k (count ∷ ws) = shift 1 (entries k count [] ws)
 
--- "four sections in fixed order"
+-- sections "in fixed order"
 unfoldable pub sections : List Kind → List ℕ → Walk
 sections [] ws = ends 0
 sections (k ∷ ks) ws = thenFrom (section k ws) (λ p. sections ks (drop p ws))
@@ -216,20 +216,39 @@ variables =
       inRow = asItStands;
     }
 
+-- document 02, T-07: "Sigma plans are a fifth book section laid out as the fourth"
+abbrev pub sigma : Kind
+sigma = variables
+
+-- "four sections in fixed order", which every book has
+abbrev pub always : List Kind
+always = reducedSingles ∷ staged ∷ sequential ∷ variables ∷ []
+
+-- and the fifth, which it may have
 abbrev pub kinds : List Kind
-kinds = reducedSingles ∷ staged ∷ sequential ∷ variables ∷ []
+kinds = reducedSingles ∷ staged ∷ sequential ∷ variables ∷ sigma ∷ []
 
 -- the kind of the section at a place in the order
 abbrev pub kindAt : ℕ → Kind
 kindAt j = getD kinds j variables
+
+-- "a book without it is still read, as having none": whatever follows the fourth section, which ends before the number
+-- at place p of a book of so many bytes, is the fifth. "If present it holds at least one entry": it is broken at a
+-- count of 0; a count that is missing or half there is no 0
+unfoldable pub fifth : ℕ → ℕ → List ℕ → Walk
+fifth len p rest = cond (leb len (2 * p)) (ends 0) (cond (eqb (getD rest 0 1) 0) (broken 0) (section sigma rest))
+
+-- all that a book of so many bytes has
+unfoldable pub allSections : ℕ → List ℕ → Walk
+allSections len ws = thenFrom (sections always ws) (λ p. fifth len p (drop p ws))
 
 -- What checking a book finds: it is sound, or it is broken at a byte (of entries to write: at a position).
 pub data Checked : Type 0 where
   sound : Checked
   brokenAt : ℕ → Checked
 
--- "nothing follows": "the first byte after the fourth section; the book's length where a number is missing or half
--- there"
+-- "nothing follows": "at the first byte after the fifth section in place of the fourth"; "the book's length where a
+-- number is missing or half there"
 unfoldable pub checkedAs : ℕ → Walk → Checked
 checkedAs len (ends p) = cond (ltb (2 * p) len) (brokenAt (2 * p)) sound
 checkedAs len (broken p) = brokenAt (2 * p)
@@ -243,7 +262,7 @@ largestBook = 32768
 unfoldable pub checkBook : List ℕ → Checked
 checkBook bytes =
     cond (ltb largestBook (length bytes)) (brokenAt largestBook)
-    (checkedAs (length bytes) (sections kinds (numbersOf bytes)))
+    (checkedAs (length bytes) (allSections (length bytes) (numbersOf bytes)))
 
 -- "Each entry that takes a book checks it first."
 abbrev pub onSound : {A : Type 0} → Checked → Answer A → Answer A
@@ -255,7 +274,7 @@ pub data Found : Type 0 where
   found : List ℕ → Found
   nothing : Found
 
--- "A plan is looked up by severity (sections 2 to 4), Table 1 letter and column."
+-- "A plan is looked up by severity (sections 2 to 4), Table 1 letter and column"; in the fifth as in the fourth
 abbrev pub keyFor : Kind → ℕ → ℕ → ℕ → List ℕ
 keyFor k severity letter column = drop (3 - k .key) (severity ∷ letter ∷ column ∷ [])
 

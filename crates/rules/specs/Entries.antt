@@ -1,6 +1,6 @@
 -- Each public entry: the order of its refusals and its answer. Definitions only.
-use Prim.Native.Nat.{ℕ, min}
-use mathlib.Core.Bool.{Bool, cond, _&&_, not}
+use Prim.Native.Nat.{ℕ, min, max}
+use mathlib.Core.Bool.{Bool, true, false, cond, _&&_, not}
 use mathlib.Core.List.{List, [], _∷_, _++_}
 use lib.Dec.{ltb, eqb}
 use lib.IntN.{ℤ}
@@ -12,7 +12,8 @@ use Rattle.rules.specs.Single.{Plan, cutPlan, tablePlan, tighterAc, sing
 use Rattle.rules.specs.Curtailed.{judgeUntilLost}
 use Rattle.rules.specs.Staged.{StagedPlan, stagesOf, totalSize, judgeStages}
 use Rattle.rules.specs.Sequential.{SequentialPlan, judgeSequence}
-use Rattle.rules.specs.Variables.{VariablesPlan, judgeReadings}
+use Rattle.rules.specs.Variables.{VariablesPlan}
+use Rattle.rules.specs.Limits.{Spread, estimated, known, Limits, one, SidesPlan, sidesOf, sideOf, judgeReadings}
 use Rattle.rules.specs.Severity.{Lot, Origin, sampled, onFraction, Event, lot, resubmitted, Record, counted}
 use Rattle.rules.specs.Severity.{singlePoints, stagedPoints}
 use Rattle.rules.specs.Fractional.{FractionalPlan, planOfShare, ownPlan, shareAt, judgeByShare}
@@ -40,9 +41,14 @@ variablesEntry p = 0 ∷ 0 ∷ 0 ∷ p .n ∷ p .k ∷ []
 abbrev pub unlessHeld : Kind → List ℕ → Check
 unlessHeld k e = not (couldHold k e) gives noPlan
 
-unfoldable pub variablesSample : Bool → VariablesPlan → ℤ → List ℕ → Answer Verdict
-variablesSample upper plan limit bytes =
-    firstOf (unlessHeld variables (variablesEntry plan) ∷ []) (judgeReadings upper plan limit bytes)
+-- .. on either side
+unfoldable pub readingsSample : Spread → Limits → SidesPlan → List ℕ → Answer Verdict
+readingsSample m limits plan bytes =
+    firstOf
+    (unlessHeld variables (variablesEntry (sideOf true plan))
+    ∷ unlessHeld variables (variablesEntry (sideOf false plan))
+    ∷ [])
+    (judgeReadings m limits plan bytes)
 
 -- The lot that is asked about, under a severity.
 pub record Asked : Type 0 where
@@ -74,7 +80,10 @@ sequentialSection = 2
 abbrev pub variablesSection : ℕ
 variablesSection = 3
 
--- "A plan is looked up by severity (sections 2 to 4), Table 1 letter and column."
+abbrev pub sigmaSection : ℕ
+sigmaSection = 4
+
+-- "A plan is looked up by severity (sections 2 to 4), Table 1 letter and column"; in the fifth as in the fourth
 abbrev pub lookedUp : ℕ → Asked → List ℕ → Found
 lookedUp section q book = lookUp section (q .severity) (letterOf (q .size) (q .level)) (q .column) (numbersOf book)
 
@@ -138,11 +147,35 @@ sequentialPlan q book =
     (firstOf (askedChecks q)
     (fromEntry (lookedUp sequentialSection q book) (λ e. unlessAbove (q .size) (sequentialOf e .nt) (sequentialOf e))))
 
-unfoldable pub variablesPlan : Asked → List ℕ → Answer VariablesPlan
-variablesPlan q book =
+-- for readings, of the fourth section or the fifth
+unfoldable pub readingsPlan : ℕ → Asked → List ℕ → Answer VariablesPlan
+readingsPlan section q book =
     onSound (checkBook book)
     (firstOf (askedChecks q)
-    (fromEntry (lookedUp variablesSection q book) (λ e. unlessAbove (q .size) (variablesOf e .n) (variablesOf e))))
+    (fromEntry (lookedUp section q book) (λ e. unlessAbove (q .size) (variablesOf e .n) (variablesOf e))))
+
+abbrev pub variablesPlan : Asked → List ℕ → Answer VariablesPlan
+variablesPlan = readingsPlan variablesSection
+
+-- document 02, T-07: "two separate limits with a K each .. the two K's looked up under two columns". The lot, asked
+-- about under another column
+abbrev pub underColumn : Asked → ℕ → Asked
+underColumn q column = record { severity = q .severity; size = q .size; level = q .level; column = column }
+
+-- "6 when the two sides' entries differ in n", or where n is above the lot
+abbrev pub fromSides : Asked → VariablesPlan → VariablesPlan → Answer SidesPlan
+fromSides q u l =
+    firstOf ((not (eqb (u .n) (l .n)) gives noPlan) ∷ (ltb (q .size) (u .n) gives noPlan) ∷ [])
+    (given (record { n = u .n; upperK = u .k; lowerK = l .k }))
+
+-- the lot is asked about under its upper column, and a lower one beside it; 4 where either is over 25
+unfoldable pub sidesPlan : ℕ → Asked → ℕ → List ℕ → Answer SidesPlan
+sidesPlan section q lower book =
+    onSound (checkBook book)
+    (firstOf (askedChecks (underColumn q (max (q .column) lower)))
+    (fromEntry (lookedUp section q book)
+    (λ e.
+    fromEntry (lookedUp section (underColumn q lower) book) (λ f. fromSides q (variablesOf e) (variablesOf f)))))
 
 -- A plan that only a book supplies, with the lot's Table 1 letter.
 pub record Lettered (P : Type 0) : Type 0 where
@@ -157,7 +190,7 @@ lettered q a = andThen a (λ p. given (record { letter = letterOf (q .size) (q .
 abbrev pub judgedOn : {P Outcome : Type 0} → (P → Answer Outcome) → P → Answer (Judged P Outcome)
 judgedOn judge plan = andThen (judge plan) (λ v. given (record { plan = plan; verdict = v }))
 
--- judge_single, judge_curtailed, judge_staged, judge_sequential, judge_variables
+-- judge_single, judge_curtailed, judge_staged, judge_sequential
 unfoldable pub judgeSingle : Asked → List ℕ → List ℕ → Answer (Judged Plan Verdict)
 judgeSingle q book sample = andThen (singlePlan q book) (judgedOn (λ plan. judgeItems (q .column) plan sample))
 
@@ -171,9 +204,21 @@ judgeStaged q book sample = andThen (stagedPlan q book) (judgedOn (λ plan. judg
 unfoldable pub judgeSequential : Asked → List ℕ → List ℕ → Answer (Judged SequentialPlan Verdict)
 judgeSequential q book sample = andThen (sequentialPlan q book) (judgedOn (λ plan. judgeSequence plan sample))
 
-unfoldable pub judgeVariables : Bool → Asked → List ℕ → ℤ → List ℕ → Answer (Judged VariablesPlan Verdict)
-judgeVariables upper q book limit readings =
-    andThen (variablesPlan q book) (judgedOn (λ plan. judgeReadings upper plan limit readings))
+-- the section that has the plans of a method
+abbrev pub sectionFor : Spread → ℕ
+sectionFor estimated = variablesSection
+sectionFor (known sigma) = sigmaSection
+
+-- judge_variables, judge_sigma: for one limit, upper or lower
+unfoldable pub judgeLimit : Spread → Bool → Asked → List ℕ → ℤ → List ℕ → Answer (Judged VariablesPlan Verdict)
+judgeLimit m upper q book limit readings =
+    andThen (readingsPlan (sectionFor m) q book)
+    (judgedOn (λ plan. judgeReadings m (one upper limit) (sidesOf plan) readings))
+
+-- judge_variables_both, judge_sigma_both: for an upper and a lower limit
+unfoldable pub judgeSides : Spread → Limits → Asked → ℕ → List ℕ → List ℕ → Answer (Judged SidesPlan Verdict)
+judgeSides m limits q lower book readings =
+    andThen (sidesPlan (sectionFor m) q lower book) (judgedOn (λ plan. judgeReadings m limits plan readings))
 
 -- "a record out of range"
 abbrev pub onSupply : {A : Type 0} → Supply → Answer A → Answer A

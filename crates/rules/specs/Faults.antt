@@ -8,7 +8,7 @@ use mathlib.Core.List.{List, []}
 use lib.ListN.{length, getD, take, drop}
 use Rattle.rules.specs.Numbers.{numbersOf}
 use Rattle.rules.specs.Book.{Kind, within, anything, sizeOf, keyOf, rises, kinds, variables, largestBook}
-use Rattle.rules.specs.Layout.{entryAt, keyBefore, sectionAt, bookEnd}
+use Rattle.rules.specs.Layout.{entryAt, keyBefore, sectionAt, fourthEnd, bookEnd}
 
 -- What applies at place p of an entry e, after an entry with the key before.
 pub data EntryFault (k : Kind) (before e : List ℕ) (p : ℕ) : Type 0 where
@@ -49,7 +49,10 @@ pub data BookFault (bytes : List ℕ) (b : ℕ) : Type 0 where
   -- a number out of range, the later of two that break a rule, a key that does not rise
   wrongNumber : length bytes ≤ largestBook → (q : ℕ) → b ≡ 2 * q → SectionsFault kinds (numbersOf bytes) q
       → BookFault bytes b
-  -- "the first byte after the fourth section"
+  -- document 02, T-07: "at the fifth count when it is 0"
+  emptyFifth : length bytes ≤ largestBook → fourthEnd bytes < length (numbersOf bytes)
+      → getD (numbersOf bytes) (fourthEnd bytes) 0 ≡ 0 → b ≡ 2 * fourthEnd bytes → BookFault bytes b
+  -- "at the first byte after the fifth section in place of the fourth"
   follows : length bytes ≤ largestBook → 2 * bookEnd bytes < length bytes → b ≡ 2 * bookEnd bytes → BookFault bytes b
   -- "the book's length where a number is missing or half there"
   missing : length bytes ≤ largestBook → length (numbersOf bytes) < bookEnd bytes → b ≡ length bytes → BookFault bytes b

@@ -6,7 +6,8 @@ use mathlib.Core.Logic.{_↔_, _⊎_}
 use mathlib.Core.Bool.{Bool, true, false, cond}
 use mathlib.Core.List.{List, _++_}
 use lib.Dec.{leb}
-use lib.IntN.{ℤ, pos}
+use lib.IntN.{ℤ, pos, _-ℤ_, _*ℤ_}
+use lib.Signed.{leZ}
 use lib.ListN.{length, getD, take}
 use Rattle.rules.specs.Numbers.{numbersOf, sumOf}
 use Rattle.rules.specs.Codes.{illegal, anyIllegal}
@@ -15,8 +16,8 @@ use Rattle.rules.specs.Single.{Plan}
 use Rattle.rules.specs.Fractional.{FractionalPlan}
 use Rattle.rules.specs.Staged.{StagedPlan, stageAt, stagesFrom, totalSize, stageDecides}
 use Rattle.rules.specs.Sequential.{SequentialPlan, itemDecides}
-use Rattle.rules.specs.Variables.{VariablesPlan, inGauge, readingsOf, acceptsReadings}
-use Rattle.rules.specs.Variables.{sumZ, squaresZ}
+use Rattle.rules.specs.Variables.{inGauge, readingsOf, acceptsReadings, sumZ, squaresZ}
+use Rattle.rules.specs.Limits.{Spread, estimated, known, Limits, one, both, SidesPlan}
 use Rattle.rules.specs.Screen.{Shown, shownOf}
 use Rattle.rules.specs.Reporting.{Row, NoRow}
 
@@ -203,28 +204,48 @@ pub record OutAt (xs : List ℤ) : Type 0 where
   pub there : place < length xs
   pub out : inGauge (getD xs place (pos 0)) ≡ false
 
--- Readings. 7 where there are not exactly the plan's n, 9 for a reading or the limit out of range.
-pub data OutOfGauge (limit : ℤ) (bytes : List ℕ) : Type 0 where
-  reading : OutAt (readingsOf bytes) → OutOfGauge limit bytes
-  the-limit : inGauge limit ≡ false → OutOfGauge limit bytes
+-- Readings. 7 where there are not exactly the plan's n; 9 for a reading out of range, "when sigma is out of range or
+-- the lower limit is not below the upper", and for a limit out of range.
+abbrev pub LimitsOut : Limits → Type 0
+LimitsOut (one upper limit) = inGauge limit ≡ false
+LimitsOut (both upper lower) = (inGauge upper ≡ false) ⊎ ((inGauge lower ≡ false) ⊎ (leZ upper lower ≡ true))
 
-abbrev pub ReadingRows : ℤ → List ℕ → VariablesPlan → ℕ → Type 0
-ReadingRows limit bytes plan = Row 7 (length bytes ≡ 2 * plan .n → ⊥) (Row 9 (OutOfGauge limit bytes) NoRow)
+abbrev pub SigmaOut : Spread → Type 0
+SigmaOut estimated = ⊥
+SigmaOut (known sigma) = (sigma < 1) ⊎ (1000 < sigma)
 
-pub record ReadingsJudged (upper : Bool) (limit : ℤ) (bytes : List ℕ) (plan : VariablesPlan) (v : Verdict) : Type 0
+pub data OutOfGauge (m : Spread) (limits : Limits) (bytes : List ℕ) : Type 0 where
+  reading : OutAt (readingsOf bytes) → OutOfGauge m limits bytes
+  the-limits : LimitsOut limits → OutOfGauge m limits bytes
+  the-sigma : SigmaOut m → OutOfGauge m limits bytes
+
+abbrev pub ReadingRows : Spread → Limits → List ℕ → SidesPlan → ℕ → Type 0
+ReadingRows m limits bytes plan = Row 7 (length bytes ≡ 2 * plan .n → ⊥) (Row 9 (OutOfGauge m limits bytes) NoRow)
+
+-- A side accepts: by the s method as document 01 says, and by the sigma method where "1,000,000 (nU − S) ≥ K · sigma ·
+-- n, and likewise from below".
+abbrev pub SideAccepts : Spread → Bool → ℕ → ℕ → ℤ → List ℤ → Type 0
+SideAccepts estimated upper n k limit xs = acceptsReadings upper (record { n = n; k = k }) limit xs ≡ true
+SideAccepts (known sigma) true n k limit xs =
+    leZ (pos (k * sigma * n)) (pos 1000000 *ℤ (pos n *ℤ limit -ℤ sumZ xs)) ≡ true
+SideAccepts (known sigma) false n k limit xs =
+    leZ (pos (k * sigma * n)) (pos 1000000 *ℤ (sumZ xs -ℤ pos n *ℤ limit)) ≡ true
+
+-- "accept only if both sides accept"
+abbrev pub LimitsAccept : Spread → Limits → SidesPlan → List ℤ → Type 0
+LimitsAccept m (one true limit) p xs = SideAccepts m true (p .n) (p .upperK) limit xs
+LimitsAccept m (one false limit) p xs = SideAccepts m false (p .n) (p .lowerK) limit xs
+LimitsAccept m (both upper lower) p xs =
+    SideAccepts m true (p .n) (p .upperK) upper xs × SideAccepts m false (p .n) (p .lowerK) lower xs
+
+pub record ReadingsJudged (m : Spread) (limits : Limits) (bytes : List ℕ) (plan : SidesPlan) (v : Verdict) : Type 0
   where
     pub whole : length bytes ≡ 2 * plan .n
     pub readings-in : OutAt (readingsOf bytes) → ⊥
-    pub limit-in : inGauge limit ≡ true
-    pub verdict :
-        record {
-          accepted = acceptsReadings upper plan limit (readingsOf bytes);
-          used = plan .n;
-          total = 0;
-          stage = 1;
-          stages = 1;
-        }
-        ≡ v
+    pub limits-in : LimitsOut limits → ⊥
+    pub sigma-in : SigmaOut m → ⊥
+    pub accepted-exactly : (v .accepted ≡ true) ↔ LimitsAccept m limits plan (readingsOf bytes)
+    pub verdict : record { accepted = v .accepted; used = plan .n; total = 0; stage = 1; stages = 1 } ≡ v
 
 -- The readings that a screen shows: 1 to 50, none half there. 7 for others, 9 for a reading out of range.
 pub record Fits (bytes : List ℕ) (n : ℕ) : Type 0 where

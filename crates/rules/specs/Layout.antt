@@ -1,9 +1,11 @@
 -- Document 01, 'Plan book': where its sections and entries stand, by counts and sizes alone, whether or not the numbers
 -- before them are right. Definitions only.
 -- Places are counted in numbers from the start of a stretch.
-use Prim.Native.Nat.{ℕ, zero, suc, _+_, _<_}
+use Prim.Native.Nat.{ℕ, zero, suc, _+_, _*_, _<_}
 use mathlib.Core.Path.{_≡_}
+use mathlib.Core.Bool.{cond}
 use mathlib.Core.List.{List, [], _∷_}
+use lib.Dec.{ltb}
 use lib.ListN.{length, getD, take, drop}
 use Rattle.rules.specs.Numbers.{numbersOf}
 use Rattle.rules.specs.Book.{Kind, sizeOf, keyOf, kinds, kindAt}
@@ -29,8 +31,16 @@ sectionAt [] (suc j) ws = 0
 sectionAt (k ∷ ks) (suc j) ws = sectionSize k ws + sectionAt ks j (drop (sectionSize k ws) ws)
 
 -- where the fourth section ends
+abbrev pub fourthEnd : List ℕ → ℕ
+fourthEnd bytes = sectionAt kinds 4 (numbersOf bytes)
+
+-- how many sections a book has: document 02, T-07, a fifth exactly where bytes follow the fourth
+abbrev pub sectionsIn : List ℕ → ℕ
+sectionsIn bytes = cond (ltb (2 * fourthEnd bytes) (length bytes)) 5 4
+
+-- where the last of them ends
 abbrev pub bookEnd : List ℕ → ℕ
-bookEnd bytes = sectionAt kinds (length kinds) (numbersOf bytes)
+bookEnd bytes = sectionAt kinds (sectionsIn bytes) (numbersOf bytes)
 
 -- the entry that a stretch begins with
 abbrev pub entryOf : Kind → List ℕ → List ℕ

@@ -8,6 +8,7 @@ pub mod Single
 pub mod Staged
 pub mod Sequential
 pub mod Variables
+pub mod Limits
 pub mod Screen
 pub mod Severity
 pub mod Curtailed

@@ -20,8 +20,9 @@ use Rattle.rules.specs.Reading.{severityRead}
 use Rattle.rules.specs.History.{Work, eventIn, after, past}
 use Rattle.rules.specs.Book.{sound, checkBook, found, nothing, stagedOf, sequentialOf, variablesOf}
 use Rattle.rules.specs.Entries.{Asked, lookedUp, reducedSection, stagedSection, sequentialSection}
-use Rattle.rules.specs.Entries.{variablesSection, plainPlan, singlePlan, Closed, Offered, askedOn}
+use Rattle.rules.specs.Entries.{plainPlan, singlePlan, underColumn, Closed, Offered, askedOn}
 use Rattle.rules.specs.Entries.{fractionalPlan, curtailedPlan}
+use Rattle.rules.specs.Limits.{SidesPlan}
 use Rattle.rules.specs.Judging.{ItemRows, CurtailedRows, SameVerdict}
 use Rattle.rules.specs.Reporting.{Row, NoRow, Then}
 
@@ -38,7 +39,7 @@ pub record Plannable (q : Asked) : Type 0 where
   pub level : q .level < 7
   pub column : q .column < 26
 
--- An entry of sections 2 to 4 is under the lot's key: its severity, Table 1 letter and column.
+-- An entry of sections 2 to 5 is under the lot's key: its severity, Table 1 letter and column.
 abbrev pub UnderKey : Asked → List ℕ → Type 0
 UnderKey q e = take 3 e ≡ q .severity ∷ letterOf (q .size) (q .level) ∷ q .column ∷ []
 
@@ -93,8 +94,44 @@ StagedPlanRows q book = LotRows q (Row 6 (NoPlan stagedSection stagedNeeds q boo
 abbrev pub SequentialPlanRows : Asked → List ℕ → ℕ → Type 0
 SequentialPlanRows q book = LotRows q (Row 6 (NoPlan sequentialSection sequentialNeeds q book) NoRow)
 
-abbrev pub VariablesPlanRows : Asked → List ℕ → ℕ → Type 0
-VariablesPlanRows q book = LotRows q (Row 6 (NoPlan variablesSection variablesNeeds q book) NoRow)
+abbrev pub ReadingsPlanRows : ℕ → Asked → List ℕ → ℕ → Type 0
+ReadingsPlanRows section q book = LotRows q (Row 6 (NoPlan section variablesNeeds q book) NoRow)
+
+-- Document 02, T-07, two columns. 4 where either is over 25; 6 where a side has no entry, "when the two sides' entries
+-- differ in n", or where n is above the lot.
+pub data NoSides (section : ℕ) (q : Asked) (lower : ℕ) (book : List ℕ) : Type 0 where
+  no-upper : lookedUp section q book ≡ nothing → NoSides section q lower book
+  no-lower : lookedUp section (underColumn q lower) book ≡ nothing → NoSides section q lower book
+  differ : (e f : List ℕ) → lookedUp section q book ≡ found e → lookedUp section (underColumn q lower) book ≡ found f
+      → (variablesOf e .n ≡ variablesOf f .n → ⊥) → NoSides section q lower book
+  above : (e : List ℕ) → lookedUp section q book ≡ found e → q .size < variablesOf e .n → NoSides section q lower book
+
+abbrev pub SidesPlanRows : ℕ → Asked → ℕ → List ℕ → ℕ → Type 0
+SidesPlanRows section q lower book =
+    Row 1 (3 < q .severity)
+    (Row 2 (q .size < 2)
+    (Row 3 (6 < q .level)
+    (Row 4 ((25 < q .column) ⊎ (25 < lower))
+    (Row 5 (q .severity ≡ 3) (Row 6 (NoSides section q lower book) NoRow)))))
+
+-- both entries under their keys, with the same n, within the lot
+pub record SidesSupplied (section : ℕ) (q : Asked) (lower : ℕ) (book : List ℕ) (plan : SidesPlan) : Type 0 where
+  pub book-sound : checkBook book ≡ sound
+  pub lot : Plannable q
+  pub lower-column : lower < 26
+  pub upper-entry : List ℕ
+  pub lower-entry : List ℕ
+  pub upper-under-key : lookedUp section q book ≡ found upper-entry
+  pub lower-under-key : lookedUp section (underColumn q lower) book ≡ found lower-entry
+  pub same-n : variablesOf upper-entry .n ≡ variablesOf lower-entry .n
+  pub within-lot : variablesOf upper-entry .n ≤ q .size
+  pub is-plan :
+      record {
+        n = variablesOf upper-entry .n;
+        upperK = variablesOf upper-entry .k;
+        lowerK = variablesOf lower-entry .k;
+      }
+      ≡ plan
 
 -- A bench without a book. 6 under reduced inspection, 8 for a total over n where items count.
 abbrev pub PlainPlanRows : Asked → ℕ → Type 0

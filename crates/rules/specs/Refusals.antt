@@ -29,7 +29,8 @@ abbrev pub whileStopped : ℕ
 whileStopped = 5
 
 -- 6: no book entry under the key, or a staged total, nt or variables n above the lot size; in the mode of document 02,
--- T-01, a fractional box at a column over 15; by T-03 no such entry to read; by T-04 a curtailed sample under reduced
+-- T-01, a fractional box at a column over 15; by T-03 no such entry to read; by T-04 a curtailed sample under reduced;
+-- by T-07 two sides' entries that differ in n
 abbrev pub noPlan : ℕ
 noPlan = 6
 
@@ -42,7 +43,7 @@ wrongLength = 7
 abbrev pub illegalItem : ℕ
 illegalItem = 8
 
--- 9: reading or limit out of range
+-- 9: reading or limit out of range; by document 02, T-07, sigma out of range, or a lower limit not below the upper
 abbrev pub outOfRange : ℕ
 outOfRange = 9
 
@@ -55,7 +56,8 @@ notStopped = 10
 abbrev pub bufferShort : ℕ
 bufferShort = 11
 
--- 12: book breaks its layout, with the byte; by document 02, T-03, a bad entry, with its position
+-- 12: book breaks its layout, with the byte, by document 02, T-07, at a fifth count of 0 too; by T-03, a bad entry,
+-- with its position
 abbrev pub brokenBook : ℕ
 brokenBook = 12
 

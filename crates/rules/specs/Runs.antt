@@ -5,11 +5,11 @@ use mathlib.Core.Path.{_≡_}
 use mathlib.Core.Bool.{Bool, false, cond}
 use mathlib.Core.List.{List, [], _∷_, map}
 use mathlib.Core.Logic.{_⊎_}
-use lib.IntN.{ℤ}
 use Rattle.rules.specs.Refusals.{Answer, refused, given}
 use Rattle.rules.specs.Severity.{Lot, sampled, Event, lot, resubmitted, corrective}
 use Rattle.rules.specs.Supply.{Supply, freshSupply, countsOn}
 use Rattle.rules.specs.Verdict.{Verdict, Judged}
+use Rattle.rules.specs.Limits.{Spread, Limits}
 use Rattle.rules.specs.Reading.{isResubmitted, severityRead}
 use Rattle.rules.specs.CleanReading.{supplyRead}
 use Rattle.rules.specs.History.{Work, eventIn, byteOf}
@@ -17,7 +17,8 @@ use Rattle.rules.specs.Entries.{Asked, Offered, Closed, closeSingle, clo
 use Rattle.rules.specs.Entries.{closeCurtailed, moved, next}
 
 -- A call: a lot closed from its sample, in full, curtailed, in the mode of fractions or in stages, or by its total; a
--- history byte, which is an order or a lot; an event handed to close_lot; a sequential or variables verdict in between.
+-- history byte, which is an order or a lot; an event handed to close_lot; a sequential verdict, or one on readings by
+-- either method for one limit or two, in between.
 pub data Call : Type 0 where
   single : Offered → List ℕ → List ℕ → Call
   curtailed : Offered → List ℕ → List ℕ → Call
@@ -27,7 +28,7 @@ pub data Call : Type 0 where
   byte : ℕ → Call
   event : Event → Call
   sequential : Asked → List ℕ → List ℕ → Call
-  variables : Bool → Asked → List ℕ → ℤ → List ℕ → Call
+  readings : Spread → Limits → Asked → ℕ → List ℕ → List ℕ → Call
 
 -- What a call enters into the record: the event that it stands for, and the next record; or nothing.
 pub data Entered : Type 0 where
@@ -52,7 +53,7 @@ entered w s (total o d) = enteredBy (closeTotal s o d)
 entered w s (byte b) = enteredAs (eventIn w b) (next w s b)
 entered w s (event e) = enteredAs (countsOn s e) (moved s e)
 entered w s (sequential q book sample) = nothing
-entered w s (variables upper q book limit readings) = nothing
+entered w s (readings m limits q lower book sample) = nothing
 
 -- a call that closes or types a resubmitted lot
 abbrev pub isResubmission : Work → Call → Bool
@@ -64,7 +65,7 @@ isResubmission w (total o d) = o .again
 isResubmission w (byte b) = isResubmitted (eventIn w b)
 isResubmission w (event e) = isResubmitted e
 isResubmission w (sequential q book sample) = false
-isResubmission w (variables upper q book limit readings) = false
+isResubmission w (readings m limits q lower book sample) = false
 
 unfoldable pub withoutResubmissions : Work → List Call → List Call
 withoutResubmissions w [] = []
@@ -118,7 +119,7 @@ EntersAs w (total o d) e = SampledOrAgain e
 EntersAs w (byte b) e = e ≡ eventIn w b
 EntersAs w (event x) e = Unit {0}
 EntersAs w (sequential q book sample) e = ⊥
-EntersAs w (variables upper q book limit readings) e = ⊥
+EntersAs w (readings m limits q lower book sample) e = ⊥
 
 -- A call that leaves the record and the events as they are.
 abbrev pub Idle : Work → List Call → Call → Type 0

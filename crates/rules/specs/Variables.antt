@@ -1,14 +1,10 @@
 -- Document 01, 'Variables, s method': upper and lower limit, in whole numbers. Definitions only.
 use Prim.Native.Nat.{ℕ, _*_, _-_}
-use mathlib.Core.Bool.{Bool, true, cond, _&&_, _||_, not}
+use mathlib.Core.Bool.{Bool, true, cond, _&&_}
 use mathlib.Core.List.{List, [], _∷_, map}
-use lib.Dec.{eqb}
 use lib.IntN.{ℤ, pos, negsuc, _+ℤ_, _-ℤ_, _*ℤ_}
 use lib.Signed.{leZ}
-use lib.ListN.{length}
-use Rattle.rules.specs.Refusals.{Answer, given, firstOf, _gives_, wrongLength, outOfRange}
 use Rattle.rules.specs.Numbers.{numbersOf, signedOf}
-use Rattle.rules.specs.Verdict.{Verdict}
 
 -- "Readings are gauge units from nominal, −1,000 to 1,000; so are limits."
 unfoldable pub inGauge : ℤ → Bool
@@ -50,16 +46,3 @@ withinSpread n k m v = leZ (pos 0) m && leZ (pos (k * k * n) *ℤ v) (pos 100000
 unfoldable pub acceptsReadings : Bool → VariablesPlan → ℤ → List ℤ → Bool
 acceptsReadings upper p limit xs =
     withinSpread (p .n) (p .k) (margin upper (p .n) (sumZ xs) limit) (spread (p .n) (sumZ xs) (squaresZ xs))
-
--- a verdict on readings: all n are used, at the only stage; readings have no total
-abbrev pub readingsVerdict : VariablesPlan → Bool → Verdict
-readingsVerdict p accepted = record { accepted = accepted; used = p .n; total = 0; stage = 1; stages = 1 }
-
--- 7 where there are not exactly n readings, then 9 for a reading or limit out of range
-unfoldable pub judgeReadings : Bool → VariablesPlan → ℤ → List ℕ → Answer Verdict
-judgeReadings upper p limit bytes =
-    firstOf
-    ((not (eqb (length bytes) (2 * p .n)) gives wrongLength)
-    ∷ (not (allInGauge (readingsOf bytes)) || not (inGauge limit) gives outOfRange)
-    ∷ [])
-    (given (readingsVerdict p (acceptsReadings upper p limit (readingsOf bytes))))

@@ -8,8 +8,8 @@ use lib.Dec.{leb, ltb, eqb}
 use lib.ListN.{length, getD, take, drop, set, replicate}
 use Rattle.rules.specs.Refusals.{Answer, given, _gives_, firstOf, noPlan, bufferShort}
 use Rattle.rules.specs.Numbers.{numbersOf, numberBytes}
-use Rattle.rules.specs.Book.{Kind, sizeOf, keyOf, entry, isEnd, kinds, kindAt, Checked, sound, brokenAt}
-use Rattle.rules.specs.Book.{largestBook, checkBook, onSound}
+use Rattle.rules.specs.Book.{Kind, sizeOf, keyOf, entry, isEnd, always, kinds, kindAt, Checked, sound}
+use Rattle.rules.specs.Book.{brokenAt, largestBook, checkBook, onSound}
 use Rattle.rules.specs.Layout.{sectionFrom}
 
 -- the entries of a section, each as its row
@@ -67,10 +67,18 @@ unfoldable pub laid : Kind → Rows → List ℕ
 laid k [] = []
 laid k (row ∷ rows) = entryInRow k row ++ laid k rows
 
--- those of the sections from the j-th on, "each after its count"
+-- document 02, T-07: the fifth section, "If present it holds at least one entry", is left out where it would have none
+unfoldable pub leftOut : ℕ → Rows → Bool
+leftOut j rows = eqb j (length always) && eqb (length rows) 0
+
+-- the section at place j of the order, "each after its count"
+unfoldable pub laidSection : Kind → ℕ → Rows → List ℕ
+laidSection k j rows = cond (leftOut j rows) [] (length rows ∷ laid k rows)
+
+-- the sections from the j-th on
 unfoldable pub laidLists : List Kind → ℕ → (ℕ → Rows) → List ℕ
 laidLists [] j rows = []
-laidLists (k ∷ ks) j rows = (length (rows j) ∷ laid k (rows j)) ++ laidLists ks (suc j) rows
+laidLists (k ∷ ks) j rows = laidSection k j (rows j) ++ laidLists ks (suc j) rows
 
 -- "entries in, book out"
 abbrev pub bookOf : (ℕ → Rows) → List ℕ

@@ -1,3 +1,4 @@
+mod OneLimit
 pub mod OneResult
 pub mod Sharing
 pub mod Verdicts

@@ -7,17 +7,18 @@ use Rattle.rules.proofs.Answers.{read-back}
 use Rattle.plans.specs.declared.VerdictAnswer.{VerdictAnswer}
 use Rattle.plans.specs.Paper.{fractionalPaper}
 use Rattle.plans.proofs.OneResult.{fractionalBack}
-use Rattle.entry.proofs.OneResult.{stagedBack, sequentialBack, variablesBack}
-use Rattle.entry.specs.Paper.{stagedPaper, sequentialPaper, variablesPaper}
+use Rattle.entry.proofs.OneResult.{stagedBack, sequentialBack, variablesBack, sidesBack}
+use Rattle.entry.specs.Paper.{stagedPaper, sequentialPaper, variablesPaper, sidesPaper}
 use Rattle.closing.specs.declared.ClosedAnswer.{ClosedAnswer}
 use Rattle.closing.proofs.OneResult.{judgedBack, judged-back, closedBack, closed-back}
 use Rattle.sentencing.specs.declared.judging.StagedJudged.{StagedJudged}
 use Rattle.sentencing.specs.declared.judging.SequentialJudged.{SequentialJudged}
-use Rattle.sentencing.specs.declared.judging.VariablesJudged.{VariablesJudged}
+use Rattle.sentencing.specs.declared.readings.VariablesJudged.{VariablesJudged}
+use Rattle.sentencing.specs.declared.readings.SidesJudged.{SidesJudged}
 use Rattle.sentencing.specs.declared.closings.StagedClosed.{StagedClosed}
 use Rattle.sentencing.specs.declared.fractional.FractionalJudged.{FractionalJudged}
 use Rattle.sentencing.specs.declared.fractional.FractionalClosed.{FractionalClosed}
-use Rattle.sentencing.specs.Paper.{stagedJudged, sequentialJudged, variablesJudged, stagedClosed}
+use Rattle.sentencing.specs.Paper.{stagedJudged, sequentialJudged, variablesJudged, sidesJudged, stagedClosed}
 use Rattle.sentencing.specs.Paper.{fractionalJudged, fractionalClosed}
 
 pub staged-judged-one : (a b : StagedJudged) → stagedJudged a ≡ stagedJudged b → a ≡ b
@@ -37,6 +38,12 @@ variables-judged-one =
     read-back variablesJudged (λ b. record { answer = judgedBack (b .answer); plan = variablesBack (b .plan) })
     (λ a. ap (λ (x : VerdictAnswer). record { answer = x; plan = a .plan })
     (judged-back (variablesPaper (a .plan)) (a .answer)))
+
+pub sides-judged-one : (a b : SidesJudged) → sidesJudged a ≡ sidesJudged b → a ≡ b
+sides-judged-one =
+    read-back sidesJudged (λ b. record { answer = judgedBack (b .answer); plan = sidesBack (b .plan) })
+    (λ a. ap (λ (x : VerdictAnswer). record { answer = x; plan = a .plan })
+    (judged-back (sidesPaper (a .plan)) (a .answer)))
 
 pub staged-closed-one : (a b : StagedClosed) → stagedClosed a ≡ stagedClosed b → a ≡ b
 staged-closed-one =

@@ -6,7 +6,6 @@ use mathlib.Core.Bool.{Bool, true, false}
 use mathlib.Core.List.{List}
 use native.Mathlib.Omega.{arith}
 use borrow.Author.Tests.{le-ltb}
-use lib.IntN.{ℤ}
 use Rattle.rules.specs.Refusals.{Answer, refused, given, andThen}
 use Rattle.rules.specs.Verdict.{Verdict, Judged}
 use Rattle.rules.specs.Severity.{Event}
@@ -15,15 +14,17 @@ use Rattle.rules.specs.Book.{Checked, sound, brokenAt, checkBook, onSound}
 use Rattle.rules.specs.Single.{Plan, judgeItems}
 use Rattle.rules.specs.Curtailed.{judgeUntilLost}
 use Rattle.rules.specs.Staged.{StagedPlan, judgeStages}
-use Rattle.rules.specs.Variables.{VariablesPlan, judgeReadings}
-use Rattle.rules.specs.Entries.{Asked, judgedOn, singlePlan, fractionalPlan, stagedPlan, variablesPlan, Lettered}
-use Rattle.rules.specs.Entries.{lettered, singleSample, stagedSample, variablesSample, judgeSingle, judgeStaged}
+use Rattle.rules.specs.Limits.{Spread, Limits, SidesPlan, sideOf, judgeReadings}
+use Rattle.rules.specs.Entries.{Asked, judgedOn, singlePlan, fractionalPlan, stagedPlan, sidesPlan, Lettered}
+use Rattle.rules.specs.Entries.{lettered, singleSample, stagedSample, readingsSample, sectionFor, judgeSingle}
+use Rattle.rules.specs.Entries.{judgeStaged}
 use Rattle.rules.specs.Entries.{Offered, askedOn, onSupply, Closed, closedWith, singleEvent, stagedEvent, closeSingle}
 use Rattle.rules.specs.Entries.{closeStaged, curtailedPlan, curtailedSample, judgeCurtailed, closeCurtailed}
 use Rattle.rules.proofs.Answers.{refused-given, given-one}
 use Rattle.rules.proofs.Demands.Two.{single-plan-given, staged-plan-given}
 use Rattle.rules.proofs.Demands.Curtailed.{in-column, curtailed-plan-given}
-use Rattle.rules.proofs.GivenPlans.{variables-given}
+use Rattle.rules.proofs.GivenPlans.{sides-given}
+use Rattle.rules.proofs.HeldPlans.{variables-could}
 use Rattle.plans.specs.declared.Outcome.{Outcome}
 use Rattle.plans.specs.declared.Outcome.the-variants as outcomes
 use Rattle.plans.specs.declared.VerdictAnswer.{VerdictAnswer}
@@ -105,10 +106,13 @@ module _ (q : Asked) (book sample : List ℕ) where
       let lot = staged-plan-given q book p .0 h .lot in
       rw (le-ltb 25 (q .column) (omega (arith, lot .column)))
 
-  pub variables-sample : (upper : Bool) (limit : ℤ) (p : VariablesPlan) → variablesPlan q book ≡ given p
-      → variablesSample upper p limit sample ≡ judgeReadings upper p limit sample
-  unfolding variablesSample
-  variables-sample upper limit p h = rw (variables-given q book p h .1)
+  pub readings-sample : (m : Spread) (limits : Limits) (lower : ℕ) (p : SidesPlan)
+      → sidesPlan (sectionFor m) q lower book ≡ given p
+      → readingsSample m limits p sample ≡ judgeReadings m limits p sample
+  unfolding readingsSample
+  readings-sample m limits lower p h =
+      let r = sides-given q book m lower p h in
+      rw (variables-could (sideOf true p) (r true), variables-could (sideOf false p) (r false))
 
 -- What goes on from an answer of a checked book has had it checked.
 pub checked : {A B : Type 0} (c : Checked) (a : Answer A) (next : A → Answer B) → a ≡ onSound c a

@@ -1,23 +1,20 @@
 // Does the lot pass: the verdict on a sample, beside the plan that it was judged on; all of the plan is 0 beside a
 // refusal.
 ghost use mathlib.Core.Path.{_≡_};
-ghost use Rattle.rules.specs.Entries.{judgeSingle, judgeCurtailed, judgeStaged, judgeSequential, judgeVariables};
+ghost use Rattle.rules.specs.Entries.{judgeSingle, judgeCurtailed, judgeStaged, judgeSequential};
 ghost use Rattle.plans.specs.Paper.{askedPaper, planPaper, beside, zeroPlan, verdictOn};
-ghost use Rattle.entry.specs.Paper.{stagedPaper, noStages, sequentialPaper, variablesPaper};
+ghost use Rattle.entry.specs.Paper.{stagedPaper, noStages, sequentialPaper};
 ghost use Rattle.closing.specs.Paper.{judgedBeside, planJudged};
-ghost use Rattle.choosing.specs.Paper.{zeroSequential, zeroVariables};
-ghost use Rattle.sentencing.specs.Paper.{stagedJudged, sequentialJudged, variablesJudged};
+ghost use Rattle.choosing.specs.Paper.{zeroSequential};
+ghost use Rattle.sentencing.specs.Paper.{stagedJudged, sequentialJudged};
 use choosing::curtailed_plan;
-use choosing::no_readings;
 use choosing::no_sequence;
 use choosing::sequential_plan;
 use choosing::single_plan;
 use choosing::staged_plan;
-use choosing::variables_plan;
 use closing::SingleJudged;
 use entry::SequentialPlan;
 use entry::StagedPlan;
-use entry::VariablesPlan;
 use plans::Asked;
 use plans::Outcome;
 use plans::SinglePlan;
@@ -147,51 +144,5 @@ pub fn judge_sequential(lot: Asked, book: &[u8], sample: &[u8]) -> SequentialJud
             sequential_judged(plan, VerdictAnswer::Refused(number, place))
         }
         Outcome::Given => sequential_judged(plan, samples::sequential_sample(plan, sample)),
-    }
-}
-
-pub struct VariablesJudged {
-    pub answer: VerdictAnswer,
-    pub plan: VariablesPlan,
-}
-
-fn variables_judged(plan: VariablesPlan, answer: VerdictAnswer) -> VariablesJudged
-    ensures { λ r. ⌜ variablesJudged r
-        ≡ beside zeroVariables planJudged (verdictOn answer (variablesPaper plan)) ⌝ }
-{
-    match answer {
-        VerdictAnswer::Refused(number, place) => VariablesJudged {
-            answer: VerdictAnswer::Refused(number, place),
-            plan: no_readings(),
-        },
-        VerdictAnswer::Given(verdict) => VariablesJudged {
-            answer: VerdictAnswer::Given(verdict),
-            plan,
-        },
-    }
-}
-
-// The verdict on readings for an upper or a lower limit.
-pub fn judge_variables(
-    upper: bool,
-    lot: Asked,
-    book: &[u8],
-    limit: i32,
-    readings: &[u8],
-) -> VariablesJudged
-    ensures { λ r. ⌜ variablesJudged r
-        ≡ beside zeroVariables planJudged
-        (judgeVariables upper (askedPaper lot) (now (book .entry)) limit (now (readings .entry))) ⌝ }
-{
-    let planned = variables_plan(lot, book);
-    let answer = planned.answer;
-    let plan = planned.plan;
-    match answer {
-        Outcome::Refused(number, place) => {
-            variables_judged(plan, VerdictAnswer::Refused(number, place))
-        }
-        Outcome::Given => {
-            variables_judged(plan, gauge::judge_readings(upper, plan, limit, readings))
-        }
     }
 }

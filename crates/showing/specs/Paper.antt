@@ -1,30 +1,17 @@
--- What the code's enums are on paper, what its loops keep, and what lent memory then holds. Definitions only.
-use Prim.Native.Nat.{ℕ, _+_, _*_, _≤_, _<_}
+-- What the code's enums are on paper, and what lent memory then holds. Definitions only.
+use Prim.Native.Nat.{ℕ, _*_, _≤_, _<_}
 use mathlib.Core.Path.{_≡_}
 use mathlib.Core.List.{List, [], _++_}
 use lib.ListN.{length, getD, drop}
 use Rattle.rules.specs.Refusals.{Answer, refused, given, andThen}
 use Rattle.rules.specs.Numbers.{numbersOf, numberBytes}
 use Rattle.rules.specs.Terminal.{leftBy}
-use Rattle.rules.specs.Book.{Kind, kinds, kindAt, checkBook, sound}
-use Rattle.rules.specs.Layout.{entryAt, sectionAt}
+use Rattle.rules.specs.Book.{kinds, kindAt, checkBook, sound}
 use Rattle.rules.specs.Writing.{readEntries}
 use Rattle.showing.specs.declared.Counted.{Counted}
 use Rattle.showing.specs.declared.Counted.the-variants as counted
 use Rattle.showing.specs.declared.EntryAnswer.{EntryAnswer}
 use Rattle.showing.specs.declared.EntryAnswer.the-variants as shown
-
--- The loop over the entries from place `at` on, before the i-th.
-pub record AtEntry (k : Kind) (ws : List ℕ) (at nth place i : ℕ) : Type 0 where
-  pub counted : i ≤ nth
-  pub stands : place ≡ at + entryAt k i (drop at ws)
-  pub near : place ≤ at + 200000 * i
-
--- The loop over the sections, before the one of a kind.
-pub record AtSection (ws : List ℕ) (j at kind : ℕ) : Type 0 where
-  pub counted : kind ≤ j
-  pub stands : at ≡ sectionAt kinds kind ws
-  pub near : at ≤ 13107200000 * kind
 
 abbrev pub countedPaper : Counted → Answer ℕ
 countedPaper (counted.Refused number byte) = refused number byte

@@ -1,10 +1,8 @@
 // A plan book's entries: how many a section has, and each as a row of numbers.
 ghost use mathlib.Core.Path.{_≡_};
-ghost use Prim.Native.Nat.{_+_, _*_, _≤_, _<_};
-ghost use lib.ListN.{length, drop};
+ghost use Prim.Native.Nat.{_<_};
+ghost use lib.ListN.{length};
 ghost use Rattle.rules.specs.Numbers.{numbersOf};
-ghost use Rattle.rules.specs.Book.{kinds, kindAt, checkBook, sound};
-ghost use Rattle.rules.specs.Layout.{entryAt, sectionAt};
 ghost use Rattle.rules.specs.Writing.{readEntries, countEntries, readEntry};
 ghost use Rattle.showing.specs.Paper.{countedPaper, Held, ShownAt, RowLeft};
 use book::BookAnswer;
@@ -14,38 +12,6 @@ use entry::KINDS;
 // Refusal.
 const BUFFER_SHORT: u8 = 11;
 
-// Where the entry starts that is nth of those from place `at` on.
-fn entry_place(kind: usize, book: &[u8], at: usize, nth: usize) -> usize
-    requires { ⌜ (at ≤ 100000000000) × (nth < 65536) ⌝ }
-    ensures { λ r. ⌜ (r ≡ at + entryAt (kindAt kind) nth (drop at (numbersOf (now (book .entry)))))
-        × (r ≤ at + 200000 * nth) ⌝ }
-{
-    let key = entry::key_len(kind);
-    let mut place = at;
-    let mut i = 0;
-    while i < nth {
-        let after = numbers::number(book, place + key);
-        place += entry::entry_size(kind, after as u16);
-        i += 1;
-    }
-    place
-}
-
-// Where the section at place j of the order starts.
-fn section_place(j: usize, book: &[u8]) -> usize
-    requires { ⌜ j ≤ length kinds ⌝ }
-    ensures { λ r. ⌜ (r ≡ sectionAt kinds j (numbersOf (now (book .entry)))) × (r ≤ 13107200000 * j) ⌝ }
-{
-    let mut at = 0;
-    let mut kind = 0;
-    while kind < j {
-        let count = numbers::number(book, at) as usize;
-        at = entry_place(kind, book, at + 1, count);
-        kind += 1;
-    }
-    at
-}
-
 // How many entries a section has, of a book that is sound; one that is not there has none.
 fn entries_in(book: &[u8], section: u32) -> u32
     ensures { λ r. ⌜ (r ≡ length (readEntries (numbersOf (now (book .entry))) section)) × (r < 65536) ⌝ }
@@ -54,7 +20,7 @@ fn entries_in(book: &[u8], section: u32) -> u32
     if KINDS <= j {
         return 0;
     }
-    let at = section_place(j, book);
+    let at = book::section_place(j, book);
     numbers::number(book, at) as u32
 }
 
@@ -78,8 +44,7 @@ fn show(book: &[u8], kind: usize, nth: usize, row: &mut [u8])
     requires { ⌜ Held (now book) kind nth (now row) ⌝ }
     ensures { λ _. ⌜ ShownAt (now (book .entry)) kind nth (now (row .entry)) (now (row .exit)) ⌝ }
 {
-    let at = section_place(kind, book);
-    let place = entry_place(kind, book, at + 1, nth);
+    let place = book::entry_place(kind, book, nth as u16);
     let from = 2 * place;
     rows::show_entry(kind, &book[from..], row);
 }

@@ -17,9 +17,10 @@ use Rattle.rules.specs.Single.{Plan}
 use Rattle.rules.specs.Staged.{StagedPlan, totalSize, stagesFrom}
 use Rattle.rules.specs.Sequential.{SequentialPlan}
 use Rattle.rules.specs.Variables.{VariablesPlan}
-use Rattle.rules.specs.Book.{Walk, ends, broken, short, sound, brokenAt, Checked, checkedAs, checkBook, sections, kinds}
-use Rattle.rules.specs.Entries.{Asked, judgeSingle, judgeStaged, judgeSequential, judgeVariables, Closed, Offered}
-use Rattle.rules.specs.Entries.{askedOn, closeSingle, closeStaged, judgeFractional, closeFractional}
+use Rattle.rules.specs.Limits.{Spread, Limits, SidesPlan}
+use Rattle.rules.specs.Book.{Walk, ends, broken, short, sound, brokenAt, Checked, checkedAs, checkBook, allSections}
+use Rattle.rules.specs.Entries.{Asked, judgeSingle, judgeStaged, judgeSequential, judgeLimit, judgeSides, Closed}
+use Rattle.rules.specs.Entries.{Offered, askedOn, closeSingle, closeStaged, judgeFractional, closeFractional}
 use Rattle.rules.specs.Entries.{singlePlan, judgeCurtailed, closeCurtailed}
 use Rattle.rules.specs.Fractional.{FractionalPlan}
 use Rattle.rules.specs.Supply.{Supply, supplyInRange}
@@ -37,16 +38,19 @@ use Rattle.closing.specs.declared.ClosedAnswer.{ClosedAnswer}
 use Rattle.closing.specs.declared.ClosedAnswer.the-variants as closes
 use Rattle.terminal.specs.Lent.{bookChecked, VerdictFits, ClosedFits}
 use Rattle.rules.proofs.Numbers.{numbers-low}
-use Rattle.rules.proofs.Walks.{place, place-sections}
+use Rattle.rules.proofs.Walks.{place}
+use Rattle.rules.proofs.Steps.{place-all}
 use Rattle.rules.proofs.Refusals.{nothing-wrong, refused-place}
 use Rattle.rules.proofs.EntryLaws.{on-book}
 use Rattle.rules.proofs.Deciding.{never-past}
 use Rattle.rules.proofs.LookUp.{broken-unsound}
 use Rattle.rules.proofs.HeldPlans.{sized}
-use Rattle.rules.proofs.GivenPlans.{single-given, fractional-given, staged-given, sequential-given, variables-given}
+use Rattle.rules.proofs.GivenPlans.{single-given, fractional-given, staged-given, sequential-given, readings-given}
+use Rattle.rules.proofs.GivenPlans.{sides-given}
 use Rattle.rules.proofs.Demands.Two as two
 use Rattle.rules.proofs.Demands.Curtailed as curtailed
 use Rattle.rules.proofs.Demands.Fractional as fractions
+use Rattle.rules.proofs.Demands.Limits as limits
 use Rattle.terminal.proofs.Lending.{in-range-length}
 
 -- a broken book's byte is within the largest book
@@ -68,14 +72,14 @@ unfolding checkBook
 byte-fits book b e = go (ltb 32768 (length book)) refl e
   where
     walk : Walk
-    walk = sections kinds (numbersOf book)
+    walk = allSections (length book) (numbersOf book)
 
     go : (t : Bool) → ltb 32768 (length book) ≡ t
         → cond t (brokenAt 32768) (checkedAs (length book) walk) ≡ brokenAt b → b ≤ 32768
     go true l f = rw (← byte-of f) (omega arith)
     go false l f =
         let n : 2 * place walk ≤ length book =
-        omega (arith, place-sections kinds (numbersOf book), numbers-low book) in
+        omega (arith, place-all (length book) (numbersOf book), numbers-low book) in
         omega (arith, ltb-false 32768 (length book) l, walk-byte (length book) walk b n f)
 
 -- The place of a refusal, of an entry that reports the lowest number, and of one that takes a book.
@@ -177,17 +181,29 @@ module _ (q : Asked) (book sample : List ℕ) where
       → VerdictFits (verdictAnswer v)
   sequential-fits = verdict-fits book (two.judge-sequential-refused q book sample) sequential-used
 
-  module _ (upper : Bool) (limit : ℤ) where
-    variables-used : (j : Judged VariablesPlan Verdict) → judgeVariables upper q book limit sample ≡ given j
+  module _ (m : Spread) (upper : Bool) (limit : ℤ) where
+    limit-used : (j : Judged VariablesPlan Verdict) → judgeLimit m upper q book limit sample ≡ given j
         → j .verdict .used ≤ 14000
-    variables-used j e =
-        let g = two.judge-variables-given q book sample upper limit j .0 e in
+    limit-used j e =
+        let g = limits.judge-limit-given m q book sample upper limit j .0 e in
         let u : j .plan .n ≡ j .verdict .used = ap (λ (v : Verdict). v .used) (g .1 .verdict) in
-        omega (arith, variables-given q book (j .plan) (g .0) .0 .fifty)
+        omega (arith, readings-given q book m (j .plan) (g .0) .fifty)
 
-    pub variables-fits : (v : VerdictAnswer) (plan : VariablesPlan)
-        → verdictOn v plan ≡ judgeVariables upper q book limit sample → VerdictFits (verdictAnswer v)
-    variables-fits = verdict-fits book (two.judge-variables-refused q book sample upper limit) variables-used
+    pub limit-fits : (v : VerdictAnswer) (plan : VariablesPlan)
+        → verdictOn v plan ≡ judgeLimit m upper q book limit sample → VerdictFits (verdictAnswer v)
+    limit-fits = verdict-fits book (limits.judge-limit-refused m q book sample upper limit) limit-used
+
+  module _ (m : Spread) (l : Limits) (lower : ℕ) where
+    sides-used : (j : Judged SidesPlan Verdict) → judgeSides m l q lower book sample ≡ given j
+        → j .verdict .used ≤ 14000
+    sides-used j e =
+        let g = limits.judge-sides-given m q book sample l lower j .0 e in
+        let u : j .plan .n ≡ j .verdict .used = ap (λ (v : Verdict). v .used) (g .1 .verdict) in
+        omega (arith, sides-given q book m lower (j .plan) (g .0) true .fifty)
+
+    pub sides-fits : (v : VerdictAnswer) (plan : SidesPlan)
+        → verdictOn v plan ≡ judgeSides m l q lower book sample → VerdictFits (verdictAnswer v)
+    sides-fits = verdict-fits book (limits.judge-sides-refused m q book sample l lower) sides-used
 
 -- the same in the mode of fractions
 module _ (s : Supply) (o : Offered) (book sample : List ℕ) where

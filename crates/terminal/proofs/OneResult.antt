@@ -84,7 +84,7 @@ variables-plan-one c d = (
   one (c .k-left) (d .k-left),
 )
 
--- of hm_single, hm_curtailed, hm_staged, hm_sequential, hm_fractional, and hm_variables_upper and _lower
+-- of hm_single, hm_curtailed, hm_staged, hm_sequential, hm_fractional, and of the six for readings
 pub verdict-one : {A : Type 0} {verdictOf : A → Verdict} {a : Answer A} {b u r b₁ u₁ s b₂ u₂ : ℕ}
     → OutcomeLeft verdictOf a r b b₁ u u₁ → OutcomeLeft verdictOf a s b b₂ u u₂ → (r ≡ s) × (b₁ ≡ b₂) × (u₁ ≡ u₂)
 verdict-one c d = (

@@ -8,23 +8,24 @@ use showing::Counted;
 use showing::EntryAnswer;
 use writing::Written;
 
-// The book of four lists of rows; 12 with the position of the first bad entry, then 11.
+// The book of five lists of rows; 12 with the position of the first bad entry, then 11.
 #[no_mangle]
 pub extern "C" fn hm_write_book<'a>(
     reduced: &'a [u8],
     staged: &'a [u8],
     sequential: &'a [u8],
     variables: &'a [u8],
+    sigma: &'a [u8],
     out: &mut [u8],
     written: &mut u32,
 ) -> u32
     ensures { λ r. ⌜ WrittenLeft
         (writeBook (lentRows (lists (now (reduced .entry)) (now (staged .entry))
-        (now (sequential .entry)) (now (variables .entry)))) (length (now (out .entry)))) r
+        (now (sequential .entry)) (now (variables .entry)) (now (sigma .entry)))) (length (now (out .entry)))) r
         (now (out .entry)) (now (out .exit))
         (now (written .entry)) (now (written .exit)) ⌝ }
 {
-    match sentencing::write_book(reduced, staged, sequential, variables, out) {
+    match sentencing::write_book(reduced, staged, sequential, variables, sigma, out) {
         Written::Refused(number, place) => status(number, place),
         Written::Bytes(n) => {
             *written = n as u32;

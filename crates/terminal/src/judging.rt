@@ -1,7 +1,6 @@
-// The verdict on a sample: accepted or not, and the items or readings used; and the screen.
-ghost use mathlib.Core.Bool.{true, false};
+// The verdict on a sample of items: accepted or not, and the items used; and the screen.
 ghost use Rattle.rules.specs.Screen.{screen};
-ghost use Rattle.rules.specs.Entries.{judgeSingle, judgeCurtailed, judgeStaged, judgeSequential, judgeVariables};
+ghost use Rattle.rules.specs.Entries.{judgeSingle, judgeCurtailed, judgeStaged, judgeSequential};
 ghost use Rattle.terminal.specs.Lent.{asked, VerdictLeft, ScreenLeft};
 use super::telling::status;
 use super::telling::tell_verdict;
@@ -116,64 +115,6 @@ pub extern "C" fn hm_sequential(
         column,
     };
     let judged = sentencing::judge_sequential(lot, book, sample);
-    let answer = judged.answer;
-    tell_verdict(answer, accepted, used)
-}
-
-// The verdict on readings for an upper limit.
-#[no_mangle]
-pub extern "C" fn hm_variables_upper(
-    size: u32,
-    level: u32,
-    column: u32,
-    severity: u32,
-    book: &[u8],
-    readings: &[u8],
-    limit: i32,
-    accepted: &mut u8,
-    used: &mut u16,
-) -> u32
-    ensures { λ r. ⌜ VerdictLeft
-        (judgeVariables true (asked severity size level column) (now (book .entry)) limit (now (readings .entry))) r
-        (now (accepted .entry)) (now (accepted .exit))
-        (now (used .entry)) (now (used .exit)) ⌝ }
-{
-    let lot = Asked {
-        severity,
-        size,
-        level,
-        column,
-    };
-    let judged = sentencing::judge_variables(true, lot, book, limit, readings);
-    let answer = judged.answer;
-    tell_verdict(answer, accepted, used)
-}
-
-// The verdict on readings for a lower limit.
-#[no_mangle]
-pub extern "C" fn hm_variables_lower(
-    size: u32,
-    level: u32,
-    column: u32,
-    severity: u32,
-    book: &[u8],
-    readings: &[u8],
-    limit: i32,
-    accepted: &mut u8,
-    used: &mut u16,
-) -> u32
-    ensures { λ r. ⌜ VerdictLeft
-        (judgeVariables false (asked severity size level column) (now (book .entry)) limit (now (readings .entry))) r
-        (now (accepted .entry)) (now (accepted .exit))
-        (now (used .entry)) (now (used .exit)) ⌝ }
-{
-    let lot = Asked {
-        severity,
-        size,
-        level,
-        column,
-    };
-    let judged = sentencing::judge_variables(false, lot, book, limit, readings);
     let answer = judged.answer;
     tell_verdict(answer, accepted, used)
 }

@@ -3,5 +3,6 @@
 pub mod books;
 pub mod judging;
 pub mod planning;
+pub mod readings;
 pub mod records;
 mod telling;

@@ -10,7 +10,8 @@ use lib.ListN.{length, getD, take, drop, length-drop, length-take, length-append
 use lib.Seq.{take-nil, drop-cons}
 use Rattle.rules.specs.Numbers.{numbersOf}
 use Rattle.rules.specs.Book.{Kind, sizeOf, keyOf, kinds, kindAt, variables, Checked, sound, brokenAt}
-use Rattle.rules.specs.Writing.{Rows, entryInRow, rowRight, checkRows, checkLists, laid, laidLists}
+use Rattle.rules.specs.Writing.{Rows, entryInRow, rowRight, checkRows, checkLists, laid, leftOut, laidSection}
+use Rattle.rules.specs.Writing.{laidLists}
 use Rattle.rules.proofs.LookUp.{broken-unsound}
 use Rattle.rules.proofs.Numbers.{numbers-low, numbers-take}
 use Rattle.rules.proofs.RowLaws.{Rowed, rowed, in-row-length}
@@ -18,7 +19,7 @@ use Rattle.rules.proofs.Written.{right-so}
 use Rattle.rules.proofs.LentRows.{rows-next, rows-done}
 use Rattle.rules.proofs.FewKeys.{few-right, bad-near, laid-short}
 use Rattle.rows.specs.Paper.{rowSize}
-use Rattle.writing.specs.Paper.{rowsOf, InList, InLists, ListChecked, ListsChecked}
+use Rattle.writing.specs.Paper.{rowsOf, noFifth, sectionSize, InList, InLists, ListChecked, ListsChecked}
 use Rattle.writing.specs.declared.ListCheck.the-variants.{Bad, Right}
 
 -- what the size of a row tells: 0 of one that is not right
@@ -142,6 +143,23 @@ checks-from k p rows e = go (checkRows k 0 [] rows) (sym (check-at k p rows) ∙
     go sound h = refl
     go (brokenAt q) h = broken-unsound h
 
+-- how many numbers a section has
+size-is : (k : Kind) (j : ℕ) (rows : Rows) (n more : ℕ) → n ≡ length rows → more ≡ length (laid k rows)
+    → sectionSize j n more ≡ length (laidSection k j rows)
+unfolding laidSection leftOut
+size-is k j rows n more e f = rw (e, f) (go (noFifth j (length rows)))
+  where
+    go : (t : Bool) → cond t 0 (1 + length (laid k rows)) ≡ length (cond t [] (length rows ∷ laid k rows))
+    go true = refl
+    go false = omega arith
+
+size-bounded : (j n more : ℕ) → sectionSize j n more ≤ 1 + more
+size-bounded j n more = go (noFifth j n)
+  where
+    go : (t : Bool) → cond t 0 (1 + more) ≤ 1 + more
+    go true = omega arith
+    go false = omega arith
+
 -- the loop over the lists
 module _ (rows : ℕ → Rows) where
   pub lists-open : InLists rows 0 0 0
@@ -165,7 +183,7 @@ module _ (rows : ℕ → Rows) where
     unfolding checkLists
     lists-bad {p} e = s .checks ∙ rw (front, check-at k before (rows kind), e)
 
-    pub bad-bounded : {p : ℕ} → ListChecked k (rows kind) (Bad p) → before + p ≤ 8112
+    pub bad-bounded : {p : ℕ} → ListChecked k (rows kind) (Bad p) → before + p ≤ 10140
     bad-bounded {p} e = omega (arith, s .few, bad-near k (rowed kind h) 0 (rows kind) p e)
 
     pub right-bounded : {n more : ℕ} → ListChecked k (rows kind) (Right n more)
@@ -174,23 +192,24 @@ module _ (rows : ℕ → Rows) where
         let few = few-right k (rowed kind h) 0 (rows kind) (e .0) in
         (omega (arith, e .1), omega (arith, e .2, laid-short k (rowed kind h) 0 [] (rows kind) (e .0)))
 
-    pub lists-next : {n more : ℕ} → ListChecked k (rows kind) (Right n more)
-        → InLists rows (kind + 1) (before + n) (size + (1 + more))
+    pub lists-next : {n more size₁ : ℕ} → ListChecked k (rows kind) (Right n more) → size₁ ≡ sectionSize kind n more
+        → InLists rows (kind + 1) (before + n) (size + size₁)
     unfolding checkLists laidLists
-    lists-next {n} {more} e =
+    lists-next {n} {more} {size₁} e told =
         let b = right-bounded e in
         record {
           counted = omega arith;
           few = omega (arith, s .few, b .0);
-          short = omega (arith, s .short, b .1);
+          short = omega (arith, s .short, told, size-bounded kind n more, b .1);
           checks = s .checks ∙ rw (front, check-at k before (rows kind), e .0, add-one kind, e .1);
           sizes =
               s .sizes
               ∙ rw (front, add-one kind)
               (omega (
                 arith,
-                length-append (laid k (rows kind)) (laidLists (drop (suc kind) kinds) (suc kind) rows),
-                e .2,
+                length-append (laidSection k kind (rows kind)) (laidLists (drop (suc kind) kinds) (suc kind) rows),
+                told,
+                size-is k kind (rows kind) n more (e .1) (e .2),
               ));
         }
 

@@ -2,6 +2,7 @@
 -- Assumes nothing.
 use Prim.Native.Nat.{ℕ, zero, suc, _+_, _-_, _*_, _/_, _≤_, _<_}
 use mathlib.Core.Path.{_≡_, refl, ap, sym, _∙_}
+use mathlib.Core.Bool.{true, false}
 use mathlib.Core.List.{List, [], _∷_, _++_}
 use native.Mathlib.Omega.{arith}
 use native.Mathlib.Nat.{mul-div-cancel}
@@ -12,7 +13,7 @@ use lib.ListN.{take-append-drop}
 use lib.Seq.{sets, length-sets, getD-take, drop-cons}
 use Rattle.rules.specs.Numbers.{numbersOf, numberBytes}
 use Rattle.rules.specs.Book.{Kind, sizeOf, keyOf, sound, kinds, kindAt, variables}
-use Rattle.rules.specs.Writing.{Rows, entryInRow, checkRows, laid, laidLists, bookOf}
+use Rattle.rules.specs.Writing.{Rows, entryInRow, checkRows, laid, leftOut, laidSection, laidLists, bookOf}
 use Rattle.rules.proofs.Numbers.{numbers-count, numbers-low, numbers-high, numbers-drop, bytes-twice, bytes-append}
 use Rattle.rules.proofs.Numbers.{bytes-back}
 use Rattle.rules.proofs.RowReadings.{plain-entry}
@@ -22,7 +23,8 @@ use Rattle.rules.proofs.RowLaws.{Rowed, in-row-length}
 use Rattle.rules.proofs.Written.{right-so, right-first, ListsRight, lists-right}
 use Rattle.rules.proofs.LentRows.{rows-next, rows-done}
 use Rattle.rows.specs.Paper.{entryLaid}
-use Rattle.writing.specs.Paper.{rowsOf, Layable, Laying, LayingRows, SectionLaid, Writable, LayingLists}
+use Rattle.writing.specs.Paper.{rowsOf, Layable, Laying, LayingRows, SectionLayable, SectionLaid, Writable}
+use Rattle.writing.specs.Paper.{LayingLists}
 use Rattle.writing.proofs.Checking.{checks-from}
 
 -- as many numbers as before
@@ -248,14 +250,33 @@ still-layable {before = before} {after = after} l i xs e =
       room = omega (arith, l .room, same-numbers after before (ap length e ∙ length-sets before i xs));
     }
 
--- a section, after its count
-pub section-laid : (k : Kind) (rows : Rows) (at n : ℕ) (start one two : List ℕ) (r : ℕ) → n ≡ length rows
-    → one ≡ sets start (2 * at) (numberBytes (n ∷ [])) → r ≡ at + 1 + length (laid k rows)
-    → two ≡ sets one (2 * (at + 1)) (numberBytes (laid k rows)) → SectionLaid k rows at start two r
-unfolding numberBytes
-section-laid k rows at n start one two r e f g h =
-    let z : 2 * (at + 1) ≡ suc (suc (2 * at)) = omega arith in
-    record { ends = omega arith; stored = h ∙ rw (f, z, e) }
+-- a section, which is left out or not
+module _ (k : Kind) (j : ℕ) (rows : Rows) (at : ℕ) (start : List ℕ) where
+  pub section-left : leftOut j rows ≡ true → SectionLaid k j rows at start start at
+  unfolding laidSection numberBytes
+  section-left e =
+      let none : laidSection k j rows ≡ [] = rw e in
+      record {
+        ends = omega (arith, ap (length {A = ℕ}) none);
+        stored = ap (λ (l : List ℕ). sets start (2 * at) (numberBytes l)) (sym none);
+      }
+
+  module _ (e : leftOut j rows ≡ false) where
+    stands : laidSection k j rows ≡ length rows ∷ laid k rows
+    unfolding laidSection
+    stands = rw e
+
+    pub list-layable : SectionLayable k j rows at start → Layable k rows (at + 1) start
+    list-layable l = record { right = l .right; room = omega (arith, l .room, ap (length {A = ℕ}) stands) }
+
+    -- after its count
+    pub section-laid : (n : ℕ) (one two : List ℕ) (r : ℕ) → n ≡ length rows
+        → one ≡ sets start (2 * at) (numberBytes (n ∷ [])) → r ≡ at + 1 + length (laid k rows)
+        → two ≡ sets one (2 * (at + 1)) (numberBytes (laid k rows)) → SectionLaid k j rows at start two r
+    unfolding numberBytes
+    section-laid n one two r q f g h =
+        let z : 2 * (at + 1) ≡ suc (suc (2 * at)) = omega arith in
+        record { ends = omega (arith, ap (length {A = ℕ}) stands); stored = h ∙ rw (stands, f, z, q) }
 
 -- the sections
 module _ (rows : ℕ → Rows) (start : List ℕ) (w : Writable rows start) where
@@ -266,6 +287,9 @@ module _ (rows : ℕ → Rows) (start : List ℕ) (w : Writable rows start) wher
     abbrev k : Kind
     k = kindAt kind
 
+    abbrev this : List ℕ
+    this = laidSection k kind (rows kind)
+
     abbrev following : List ℕ
     following = laidLists (drop (suc kind) kinds) (suc kind) rows
 
@@ -275,34 +299,32 @@ module _ (rows : ℕ → Rows) (start : List ℕ) (w : Writable rows start) wher
     right : ListsRight k (drop (suc kind) kinds) kind (s .right .0) rows
     right = lists-right k (drop (suc kind) kinds) kind (s .right .0) rows (rw front at (s .right .1))
 
-    laying : Laying start 0 (laidLists kinds 0 rows) out at ((length (rows kind) ∷ laid k (rows kind)) ++ following)
+    laying : Laying start 0 (laidLists kinds 0 rows) out at (this ++ following)
     unfolding laidLists
     laying = rw front at (s .rest)
 
-    pub section-fits : at + 1 + length (laid k (rows kind)) ≤ length (numbersOf out)
+    section-fits : at + length this ≤ length (numbersOf out)
     section-fits =
         omega (
           arith,
           laying .upto,
-          length-append (laid k (rows kind)) following,
+          length-append this following,
           w .room,
           same-numbers out start (laying .long),
           numbers-high start,
         )
 
-    pub section-layable : Layable k (rows kind) (at + 1) out
+    pub section-layable : SectionLayable k kind (rows kind) at out
     section-layable =
         record { right = checks-from k (s .right .0) (rows kind) (right .first); room = section-fits }
 
-    pub section-next : {after : List ℕ} {r : ℕ} → SectionLaid k (rows kind) at out after r
+    pub section-next : {after : List ℕ} {r : ℕ} → SectionLaid k kind (rows kind) at out after r
         → LayingLists rows start (kind + 1) r after
     section-next {after} {r} l =
-        let xs = length (rows kind) ∷ laid k (rows kind) in
-        let z : r ≡ at + length xs = l .ends in
         record {
           counted = omega arith;
           right = (s .right .0 + length (rows kind), rw add-one (right .later));
-          rest = rw (l .stored, z, add-one kind) (laying-on xs following laying);
+          rest = rw (l .stored, l .ends, add-one kind) (laying-on this following laying);
         }
 
   pub sections-end : {kind at : ℕ} {out : List ℕ} → LayingLists rows start kind at out → length kinds ≤ kind

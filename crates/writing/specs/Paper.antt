@@ -1,26 +1,35 @@
 -- What the code's enums are on paper, what its loops keep, and what lent memory then holds. Definitions only.
-use Prim.Native.Nat.{ℕ, suc, _+_, _*_, _-_, _≤_}
+use Prim.Native.Nat.{ℕ, _+_, _*_, _-_, _≤_}
 use mathlib.Core.Path.{_≡_}
+use mathlib.Core.Bool.{Bool, cond, _&&_}
 use mathlib.Core.List.{List, [], _∷_, _++_}
+use lib.Dec.{eqb}
 use lib.ListN.{length, take, drop}
 use lib.Seq.{sets}
 use Rattle.rules.specs.Refusals.{Answer, refused, given, andThen}
 use Rattle.rules.specs.Numbers.{numbersOf, numberBytes}
 use Rattle.rules.specs.Terminal.{leftBy}
-use Rattle.rules.specs.Book.{Kind, keyOf, kinds, sound, brokenAt}
-use Rattle.rules.specs.Writing.{Rows, rowsIn, checkRows, checkLists, laid, laidLists}
+use Rattle.rules.specs.Book.{Kind, keyOf, always, kinds, sound, brokenAt}
+use Rattle.rules.specs.Writing.{Rows, rowsIn, checkRows, checkLists, laid, laidSection, laidLists}
 use Rattle.writing.specs.declared.ListCheck.{ListCheck}
 use Rattle.writing.specs.declared.ListCheck.the-variants as listed
 use Rattle.writing.specs.declared.Written.{Written}
 use Rattle.writing.specs.declared.Written.the-variants as written
 
 -- the lists that are lent, in the order of the sections
-abbrev pub lists : List ℕ → List ℕ → List ℕ → List ℕ → List (List ℕ)
-lists reduced staged sequential variables = reduced ∷ staged ∷ sequential ∷ variables ∷ []
+abbrev pub lists : List ℕ → List ℕ → List ℕ → List ℕ → List ℕ → List (List ℕ)
+lists reduced staged sequential variables sigma = reduced ∷ staged ∷ sequential ∷ variables ∷ sigma ∷ []
 
 -- the rows of a lent list
 abbrev pub rowsOf : Kind → List ℕ → Rows
 rowsOf k list = rowsIn (k .width) (length list) list
+
+-- is a section of n entries, at place j of the order, left out? And how many numbers it has, by how many theirs are
+abbrev pub noFifth : ℕ → ℕ → Bool
+noFifth j n = eqb j (length always) && eqb n 0
+
+abbrev pub sectionSize : ℕ → ℕ → ℕ → ℕ
+sectionSize j n numbers = cond (noFifth j n) 0 (1 + numbers)
 
 -- what checking a list finds, and what checking all lists finds
 abbrev pub ListChecked : Kind → Rows → ListCheck → Type 0
@@ -31,7 +40,7 @@ ListChecked k rows (listed.Right n size) =
 abbrev pub ListsChecked : (ℕ → Rows) → ListCheck → Type 0
 ListsChecked rows (listed.Bad p) = checkLists kinds 0 0 rows ≡ brokenAt p
 ListsChecked rows (listed.Right n size) =
-    (checkLists kinds 0 0 rows ≡ sound) × (size ≡ length (laidLists kinds 0 rows)) × (size ≤ 202804)
+    (checkLists kinds 0 0 rows ≡ sound) × (size ≡ length (laidLists kinds 0 rows)) × (size ≤ 253505)
 
 -- The loop over the rows of a list: i are right and have so many numbers, the last of them stands from byte prev on,
 -- the next at byte at.
@@ -58,10 +67,15 @@ pub record Layable (k : Kind) (rows : Rows) (at : ℕ) (out : List ℕ) : Type 0
   pub right : checkRows k 0 [] rows ≡ sound
   pub room : at + length (laid k rows) ≤ length (numbersOf out)
 
--- A section that was laid from place `at` on, and the place after it.
-pub record SectionLaid (k : Kind) (rows : Rows) (at : ℕ) (before after : List ℕ) (r : ℕ) : Type 0 where
-  pub ends : r ≡ at + suc (length (laid k rows))
-  pub stored : after ≡ sets before (2 * at) (numberBytes (length rows ∷ laid k rows))
+-- The same of the section at place j of the order.
+pub record SectionLayable (k : Kind) (j : ℕ) (rows : Rows) (at : ℕ) (out : List ℕ) : Type 0 where
+  pub right : checkRows k 0 [] rows ≡ sound
+  pub room : at + length (laidSection k j rows) ≤ length (numbersOf out)
+
+-- It was laid from place `at` on, and the place after it.
+pub record SectionLaid (k : Kind) (j : ℕ) (rows : Rows) (at : ℕ) (before after : List ℕ) (r : ℕ) : Type 0 where
+  pub ends : r ≡ at + length (laidSection k j rows)
+  pub stored : after ≡ sets before (2 * at) (numberBytes (laidSection k j rows))
 
 -- Lists whose rows are right, and room for their book, which is not too long.
 pub record Writable (rows : ℕ → Rows) (out : List ℕ) : Type 0 where

@@ -4,39 +4,43 @@ ghost use Prim.Native.Nat.{_+_, _*_, _≤_, _<_};
 ghost use mathlib.Core.List.{_∷_, []};
 ghost use lib.ListN.{length, getD};
 ghost use lib.Seq.{sets};
-ghost use Rattle.rules.specs.Numbers.{numbersOf, numberBytes};
+ghost use Rattle.rules.specs.Numbers.{numberBytes};
 ghost use Rattle.rules.specs.Book.{kinds, kindAt};
 ghost use Rattle.rules.specs.Writing.{lentRows, laid, bookOf, writeBook};
-ghost use Rattle.writing.specs.Paper.{lists, rowsOf, ListChecked, ListsChecked, Layable, SectionLaid, Writable};
-ghost use Rattle.writing.specs.Paper.{BookLeft};
+ghost use Rattle.writing.specs.Paper.{lists, rowsOf, noFifth, sectionSize, ListChecked, ListsChecked};
+ghost use Rattle.writing.specs.Paper.{Layable, SectionLayable, SectionLaid, Writable, BookLeft};
 use book::BROKEN_BOOK;
 use book::LARGEST_BOOK;
 use entry::KINDS;
 use entry::REDUCED;
 use entry::SEQUENTIAL;
+use entry::SIGMA;
 use entry::STAGED;
+use entry::VARIABLES;
 
 // Refusal.
 const BUFFER_SHORT: u8 = 11;
 
-// The list of a kind, of the four that are lent.
+// The list of a kind, of the five that are lent.
 fn list_of<'a>(
     kind: usize,
     reduced: &'a [u8],
     staged: &'a [u8],
     sequential: &'a [u8],
     variables: &'a [u8],
+    sigma: &'a [u8],
 ) -> &'a [u8]
     requires { ⌜ kind < length kinds ⌝ }
     ensures { λ r. ⌜ now r
-        ≡ getD (lists (now (reduced .entry)) (now (staged .entry)) (now (sequential .entry)) (now (variables .entry)))
-        kind [] ⌝ }
+        ≡ getD (lists (now (reduced .entry)) (now (staged .entry)) (now (sequential .entry))
+        (now (variables .entry)) (now (sigma .entry))) kind [] ⌝ }
 {
     match kind {
         REDUCED => reduced,
         STAGED => staged,
         SEQUENTIAL => sequential,
-        _ => variables,
+        VARIABLES => variables,
+        _ => sigma,
     }
 }
 
@@ -71,28 +75,51 @@ fn check_list(kind: usize, list: &[u8]) -> ListCheck
     ListCheck::Right(i, size)
 }
 
-// All lists: the position is counted through them, and each section has its count before its numbers.
+// Is a section of n entries left out? The fifth is, without any.
+fn left_out(kind: usize, n: usize) -> bool
+    ensures { λ r. ⌜ r ≡ noFifth kind n ⌝ }
+{
+    if kind == SIGMA {
+        return n == 0;
+    }
+    false
+}
+
+// How many numbers a section of n entries has: its count, and then theirs.
+fn section_size(kind: usize, n: usize, laid: usize) -> usize
+    requires { ⌜ laid ≤ 50700 ⌝ }
+    ensures { λ r. ⌜ r ≡ sectionSize kind n laid ⌝ }
+{
+    if left_out(kind, n) {
+        return 0;
+    }
+    1 + laid
+}
+
+// All lists: the position is counted through them.
 fn check_lists<'a>(
     reduced: &'a [u8],
     staged: &'a [u8],
     sequential: &'a [u8],
     variables: &'a [u8],
+    sigma: &'a [u8],
 ) -> ListCheck
     ensures { λ r. ⌜ ListsChecked
         (lentRows (lists (now (reduced .entry)) (now (staged .entry))
-        (now (sequential .entry)) (now (variables .entry)))) r ⌝ }
+        (now (sequential .entry)) (now (variables .entry)) (now (sigma .entry)))) r ⌝ }
 {
     let mut before = 0;
     let mut size = 0;
     let mut kind = 0;
     while kind < KINDS {
-        match check_list(kind, list_of(kind, reduced, staged, sequential, variables)) {
+        let list = list_of(kind, reduced, staged, sequential, variables, sigma);
+        match check_list(kind, list) {
             ListCheck::Bad(p) => {
                 return ListCheck::Bad(before + p);
             }
-            ListCheck::Right(n, more) => {
+            ListCheck::Right(n, laid) => {
                 before += n;
-                size += 1 + more;
+                size += section_size(kind, n, laid);
                 kind += 1;
             }
         }
@@ -158,14 +185,17 @@ fn lay_list(kind: usize, list: &[u8], out: &mut [u8], at: usize) -> usize
     at + list.len() / 2
 }
 
-// A section: its count, and then its entries.
+// A section, unless it is left out: its count, and then its entries; the place after it.
 fn lay_section(kind: usize, list: &[u8], out: &mut [u8], at: usize) -> usize
     requires { ⌜ (kind < length kinds)
-        × Layable (kindAt kind) (rowsOf (kindAt kind) (now list)) (at + 1) (now out) ⌝ }
-    ensures { λ r. ⌜ SectionLaid (kindAt kind) (rowsOf (kindAt kind) (now (list .entry))) at
+        × SectionLayable (kindAt kind) kind (rowsOf (kindAt kind) (now list)) at (now out) ⌝ }
+    ensures { λ r. ⌜ SectionLaid (kindAt kind) kind (rowsOf (kindAt kind) (now (list .entry))) at
         (now (out .entry)) (now (out .exit)) r ⌝ }
 {
     let n = list.len() / (2 * rows::row_width(kind));
+    if left_out(kind, n) {
+        return at;
+    }
     put_count(out, at, n);
     lay_list(kind, list, out, at + 1)
 }
@@ -176,19 +206,20 @@ fn lay_lists<'a>(
     staged: &'a [u8],
     sequential: &'a [u8],
     variables: &'a [u8],
+    sigma: &'a [u8],
     out: &mut [u8],
 )
     requires { ⌜ Writable
-        (lentRows (lists (now reduced) (now staged) (now sequential) (now variables))) (now out) ⌝ }
+        (lentRows (lists (now reduced) (now staged) (now sequential) (now variables) (now sigma))) (now out) ⌝ }
     ensures { λ _. ⌜ now (out .exit)
         ≡ sets (now (out .entry)) 0
         (bookOf (lentRows (lists (now (reduced .entry)) (now (staged .entry))
-        (now (sequential .entry)) (now (variables .entry))))) ⌝ }
+        (now (sequential .entry)) (now (variables .entry)) (now (sigma .entry))))) ⌝ }
 {
     let mut at = 0;
     let mut kind = 0;
     while kind < KINDS {
-        let list = list_of(kind, reduced, staged, sequential, variables);
+        let list = list_of(kind, reduced, staged, sequential, variables, sigma);
         at = lay_section(kind, list, out, at);
         kind += 1;
     }
@@ -207,14 +238,15 @@ pub fn write_book<'a>(
     staged: &'a [u8],
     sequential: &'a [u8],
     variables: &'a [u8],
+    sigma: &'a [u8],
     out: &mut [u8],
 ) -> Written
     ensures { λ r. ⌜ BookLeft
         (writeBook (lentRows (lists (now (reduced .entry)) (now (staged .entry))
-        (now (sequential .entry)) (now (variables .entry)))) (length (now (out .entry)))) r
+        (now (sequential .entry)) (now (variables .entry)) (now (sigma .entry)))) (length (now (out .entry)))) r
         (now (out .entry)) (now (out .exit)) ⌝ }
 {
-    match check_lists(reduced, staged, sequential, variables) {
+    match check_lists(reduced, staged, sequential, variables, sigma) {
         ListCheck::Bad(p) => Written::Refused(BROKEN_BOOK, p),
         ListCheck::Right(_, numbers) => {
             let size = 2 * numbers;
@@ -224,7 +256,7 @@ pub fn write_book<'a>(
             if LARGEST_BOOK < size {
                 return Written::Refused(BUFFER_SHORT, 0);
             }
-            lay_lists(reduced, staged, sequential, variables, out);
+            lay_lists(reduced, staged, sequential, variables, sigma, out);
             Written::Bytes(size)
         }
     }

@@ -7,7 +7,7 @@ use native.Mathlib.Omega.{arith}
 use denote.Ref.{now}
 use lib.ListN.{length, drop, length-drop}
 use Rattle.rules.specs.Numbers.{numbersOf}
-use Rattle.rules.specs.Book.{kinds, kindAt}
+use Rattle.rules.specs.Book.{always, kindAt}
 use Rattle.rules.proofs.Numbers.{numbers-low, numbers-part}
 use Rattle.rules.proofs.Walks.{place-ends, place-broken, place-section}
 use Rattle.book.specs.Paper.{SectionRead, InBook}
@@ -22,7 +22,7 @@ abbrev Inv-loop : tie.InvT-loop
 Inv-loop asked key book at₀ held₀ kind₀ at held kind = InBook asked key (numbersOf book) kind at held
 
 abbrev μ-loop : tie.MeasureT-loop
-μ-loop asked key book at₀ held₀ kind₀ at held kind = length kinds - kind
+μ-loop asked key book at₀ held₀ kind₀ at held kind = length always - kind
 
 -- what the checker of a section promises of a part of the book, said of the book's numbers from there on
 module _ (d : tie.After-check-section Inv-loop μ-loop) where

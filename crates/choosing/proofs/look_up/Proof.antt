@@ -23,7 +23,7 @@ returns-2 c =
     looked-up (a .kind) (askedPaper (a .lot)) (now (a .book)) _ _
     (sym (c .before .before .before .before .before .before .before .asked-letter .ensures) ∙ ap letterPaper
     (c .before .before .before .before .before .letter .given .1))
-    (sym (ap foundPaper (c .before .number2 .given .1)) ∙ c .before .before .before .find .ensures)
+    (sym (ap foundPaper (c .before .number2 .given .1)) ∙ c .before .before .before .find-place .ensures)
 
 returns-3 : tie.Need-returns-3
 returns-3 c =
@@ -31,7 +31,7 @@ returns-3 c =
     looked-up (a .kind) (askedPaper (a .lot)) (now (a .book)) _ _
     (sym (c .before .before .before .before .before .before .before .asked-letter .ensures) ∙ ap letterPaper
     (c .before .before .before .before .before .letter .given .1))
-    (sym (ap foundPaper (c .before .place .given .1)) ∙ c .before .before .before .find .ensures)
+    (sym (ap foundPaper (c .before .place .given .1)) ∙ c .before .before .before .find-place .ensures)
 
 pub look-up-spec : {M : Type 1} → statement M
 look-up-spec =

@@ -14,7 +14,7 @@ use Rattle.rules.proofs.Numbers.{numbers-low, numbers-part}
 use Rattle.plans.specs.Paper.{askedPaper, beside, itself, zeroPlan}
 use Rattle.entry.specs.Paper.{reducedPaper}
 use Rattle.choosing.specs.Paper.{suppliedPaper, placeFor}
-use Rattle.choosing.proofs.Supplies.{supplied-near, not-supplied, reduced-supplied, reduced-given}
+use Rattle.choosing.proofs.Supplies.{unchecked, supplied-near, not-supplied, reduced-supplied, reduced-given}
 use borrow.Author.Needs.{needs}
 use Rattle.choosing.proofs.reduced_plan.Statement.{statement}
 use Rattle.choosing.proofs.reduced_plan.Tie as tie
@@ -79,6 +79,6 @@ returns-2 c =
 pub reduced-plan-spec : {M : Type 1} → statement M
 reduced-plan-spec =
     tie.close
-    (tie.spec (λ c κs. search needs) (λ c. search needs) (λ c κs. search needs)
+    (tie.spec (λ c κs. unchecked _) (λ c. search needs) (λ c κs. search needs)
     (λ c. search needs) mul-from sub-reduced-at part-reduced-at-start (λ c. search needs) (λ c κs. search needs)
     (λ c κs. search needs) returns returns-2)

@@ -15,7 +15,7 @@ use Rattle.rules.proofs.Numbers.{numbers-low, numbers-part}
 use Rattle.plans.specs.Paper.{askedPaper, beside, itself}
 use Rattle.entry.specs.Paper.{sequentialPaper}
 use Rattle.choosing.specs.Paper.{suppliedPaper, placeFor, withoutLetter, zeroSequential}
-use Rattle.choosing.proofs.Supplies.{supplied-near, plan-refused, plan-above, plan-given}
+use Rattle.choosing.proofs.Supplies.{unchecked, supplied-near, plan-refused, plan-above, plan-given}
 use borrow.Author.Needs.{needs}
 use Rattle.choosing.proofs.sequential_plan.Statement.{statement}
 use Rattle.choosing.proofs.sequential_plan.Tie as tie
@@ -98,6 +98,6 @@ returns-3 c =
 pub sequential-plan-spec : {M : Type 1} → statement M
 sequential-plan-spec =
     tie.close
-    (tie.spec (λ c κs. search needs) (λ c. search needs) (λ c κs. search needs)
+    (tie.spec (λ c κs. unchecked _) (λ c. search needs) (λ c κs. search needs)
     (λ c. search needs) mul-from sub-sequential-at part-sequential-at-start (λ c. search needs)
     (λ c κs. search needs) (λ c. search needs) (λ c κs. search needs) returns returns-2 returns-3)

@@ -19,7 +19,7 @@ use Rattle.entry.specs.Paper.{stagedPaper, noStages, stagedRead}
 use Rattle.book.proofs.PlaceLaws.{few-stages}
 use Rattle.choosing.specs.Paper.{suppliedPaper, placeFor, withoutLetter}
 use Rattle.choosing.proofs.Sizes.{read-few}
-use Rattle.choosing.proofs.Supplies.{supplied-near, supplied-at, plan-refused, plan-above, plan-given}
+use Rattle.choosing.proofs.Supplies.{unchecked, supplied-near, supplied-at, plan-refused, plan-above, plan-given}
 use borrow.Author.Needs.{needs}
 use Rattle.choosing.proofs.staged_plan.Statement.{statement}
 use Rattle.choosing.proofs.staged_plan.Tie as tie
@@ -124,7 +124,7 @@ returns-3 c =
 pub staged-plan-spec : {M : Type 1} → statement M
 staged-plan-spec =
     tie.close
-    (tie.spec (λ c κs. search needs) (λ c. search needs) (λ c κs. search needs)
+    (tie.spec (λ c κs. unchecked _) (λ c. search needs) (λ c κs. search needs)
     (λ c. search needs) mul-from sub-staged-at part-staged-at-start (λ c. search needs) (λ c κs. search needs)
     (λ c. search needs) total-size-requires (λ c κs. search needs) returns
     returns-2 returns-3)

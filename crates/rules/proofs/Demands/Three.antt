@@ -9,7 +9,6 @@ use mathlib.Core.Bool.{Bool, true, false, not}
 use mathlib.Core.List.{List, [], _∷_, _++_, map, reverse}
 use mathlib.Core.Logic.{_⊎_, inl, inr}
 use native.Mathlib.Omega.{arith}
-use lib.IntN.{ℤ}
 use lib.ListN.{length, take}
 use Rattle.rules.specs.Refusals.{Answer, given}
 use Rattle.rules.specs.Verdict.{Verdict, Judged}
@@ -30,7 +29,8 @@ use Rattle.rules.specs.Judging.{Begins, LegalFull}
 use Rattle.rules.specs.Entries.{Asked, Offered, closeSingle, closeStaged, closeFractional}
 use Rattle.rules.specs.Entries.{closeCurtailed, judgeCurtailed}
 use Rattle.rules.specs.Entries.{closeTotal, next, moved, judgeSingle, judgeStaged, judgeTotal, judgeFractional}
-use Rattle.rules.specs.Runs.{Call, single, curtailed, fractional, staged, total, byte, sequential, variables}
+use Rattle.rules.specs.Limits.{Spread, Limits}
+use Rattle.rules.specs.Runs.{Call, single, curtailed, fractional, staged, total, byte, sequential, readings}
 use Rattle.rules.specs.Runs.{entered, isResubmission, withoutResubmissions, supplyBy, ran, eventsRan, bytesRan}
 use Rattle.rules.specs.Runs.{event, eventsRead, EntersAs, Corrects, Idle, Records, ClosesLot, ByCall, askedAt}
 use Rattle.rules.specs.Runs.{AskedAsRead}
@@ -58,7 +58,7 @@ use Rattle.rules.proofs.Runs.{ran-agrees, ran-as-read, ran-agrees-bytes
 use Rattle.rules.proofs.Runs.{by-call}
 use Rattle.rules.proofs.Runs.{call-range, ran-range, ran-corrected, events-as-read, single-closes, staged-closes}
 use Rattle.rules.proofs.Runs.{curtailed-closes, fractional-closes, call-enters-as, later-alike}
-use Rattle.rules.proofs.Runs.{total-closes, byte-records, event-records, sequential-idle, variables-idle}
+use Rattle.rules.proofs.Runs.{total-closes, byte-records, event-records, sequential-idle, readings-idle}
 
 -- 1. The record folded over any history not refused has the severity of the written reading, and all its figures.
 module _ (start : Bool) (es : List Event) (r : Record) (q : after start es ≡ given r) where
@@ -78,8 +78,8 @@ pub bytes-record : (w : Work) (h : List ℕ) (r : Record) → afterHistory w h �
 bytes-record w h r q =
     agree (w .permission) (past w h (length h)) r q ∙ ap (recordRead (w .permission)) (past-whole w h)
 
--- What a run records: each call that is given, its record and its event; a refused call, a sequential and a variables
--- verdict, nothing.
+-- What a run records: each call that is given, its record and its event; a refused call, a sequential verdict and one
+-- on readings, nothing.
 module _ (w : Work) (cs : List Call) where
   pub run-closes-single : (o : Offered) (book sample : List ℕ)
       → ClosesLot w cs (single o book sample) (closeSingle (ran w cs) o book sample)
@@ -112,9 +112,9 @@ module _ (w : Work) (cs : List Call) where
   pub run-drops-sequential : (q : Asked) (book sample : List ℕ) → Idle w cs (sequential q book sample)
   run-drops-sequential q book sample = sequential-idle w cs q book sample
 
-  pub run-drops-variables : (upper : Bool) (q : Asked) (book : List ℕ) (limit : ℤ) (readings : List ℕ)
-      → Idle w cs (variables upper q book limit readings)
-  run-drops-variables upper q book limit readings = variables-idle w cs upper q book limit readings
+  pub run-drops-readings : (m : Spread) (limits : Limits) (q : Asked) (lower : ℕ) (book sample : List ℕ)
+      → Idle w cs (readings m limits q lower book sample)
+  run-drops-readings m limits q lower book sample = readings-idle w cs m limits q lower book sample
 
 module _ (w : Work) (cs : List Call) where
   pub run-severity : ran w cs .switching .severity ≡ severityRead (w .permission) (eventsRan w cs)

@@ -12,7 +12,6 @@ use native.Mathlib.Omega.{arith}
 use borrow.Author.Tests.{ltb-true, ltb-false, lt-ltb, le-ltb, leb-true, le-leb, lt-leb, eqb-true, eqb-false, eq-eqb}
 use borrow.Author.Tests.{ne-eqb, not-true, not-false}
 use lib.Dec.{leb, ltb, eqb}
-use lib.IntN.{ℤ}
 use lib.ListN.{length}
 use Rattle.rules.specs.Refusals.{Answer, refused, given, _gives_, firstOf, andThen, illegalItem, bufferShort}
 use Rattle.rules.specs.Refusals.{noPlan, noSuchColumn, unknownForm}
@@ -21,29 +20,28 @@ use Rattle.rules.specs.Verdict.{Verdict, Judged}
 use Rattle.rules.specs.Single.{Plan, tablePlan, singleVerdict, judgeItems}
 use Rattle.rules.specs.Staged.{StagedPlan, judgeStages}
 use Rattle.rules.specs.Sequential.{SequentialPlan, judgeSequence}
-use Rattle.rules.specs.Book.{variables, couldHold, checkBook}
+use Rattle.rules.specs.Book.{checkBook}
 use Rattle.rules.specs.Book.{Found, found, nothing, stagedOf, sequentialOf, variablesOf}
-use Rattle.rules.specs.Entries.{unlessHeld, variablesEntry, Lettered, lettered}
-use Rattle.rules.specs.Entries.{singleSample, stagedSample, variablesSample, Asked}
+use Rattle.rules.specs.Entries.{Lettered, lettered, singleSample, stagedSample, Asked}
 use Rattle.rules.specs.Entries.{askedLetter, lookedUp, reducedSection, stagedSection, sequentialSection}
 use Rattle.rules.specs.Entries.{variablesSection, fromEntry, reducedPlan, singlePlan, plainPlan, stagedPlan}
-use Rattle.rules.specs.Entries.{sequentialPlan, variablesPlan, judgeSingle, judgeStaged, judgeSequential}
-use Rattle.rules.specs.Entries.{judgeVariables, totalOn, judgeTotal, next, Closed, Offered, askedOn}
+use Rattle.rules.specs.Entries.{sequentialPlan, readingsPlan, variablesPlan, judgeSingle, judgeStaged}
+use Rattle.rules.specs.Entries.{judgeSequential, totalOn, judgeTotal, next, Closed, Offered, askedOn}
 use Rattle.rules.specs.Entries.{singleCounts, stagedCounts, singleEvent, stagedEvent, closeSingle, closeStaged}
 use Rattle.rules.specs.Entries.{closeTotal, moved}
 use Rattle.rules.specs.Severity.{sampled, Event, lot, Record, fresh}
 use Rattle.rules.specs.Supply.{Supply, countsOn, supplyInRange}
-use Rattle.rules.specs.Variables.{VariablesPlan, allInGauge, readingsOf, judgeReadings, sumZ, squaresZ}
+use Rattle.rules.specs.Variables.{VariablesPlan, allInGauge, readingsOf, sumZ, squaresZ}
 use Rattle.rules.specs.History.{Work, eventIn, afterHistory, listed, leftIn}
 use Rattle.rules.proofs.Histories.{from-refused, filled-length, filled-at, filled-past}
 use Rattle.rules.specs.Screen.{Shown, screen, shownOf}
 use Rattle.rules.specs.Reporting.{NoRow, OnBook, Reports, Row, Then}
 use Rattle.rules.specs.Judging.{EndsAtItem, EndsAtStage, ItemRows, ItemsJudged, MeetsInStage, MeetsItem}
-use Rattle.rules.specs.Judging.{ReadingRows, ReadingsJudged, SampleRows, ScreenRows, Screened}
+use Rattle.rules.specs.Judging.{SampleRows, ScreenRows, Screened}
 use Rattle.rules.specs.Planning.{BufferListed, Closes, EventRows, FirstBad, LotRows, NoReduced}
 use Rattle.rules.specs.Planning.{PlainPlanRows, PlainPlanned, Plannable, SequentialPlanRows, SinglePlanRows}
 use Rattle.rules.specs.Planning.{SinglePlanned, StagedPlanRows, Supplies, Took, TotalJudged, TotalRows}
-use Rattle.rules.specs.Planning.{VariablesPlanRows, sequentialNeeds, stagedNeeds, variablesNeeds}
+use Rattle.rules.specs.Planning.{ReadingsPlanRows, sequentialNeeds, stagedNeeds, variablesNeeds}
 use Rattle.rules.proofs.Bounded.{by-le}
 use Rattle.rules.proofs.Bools.{and-left, and-right}
 use Rattle.rules.proofs.Answers.{refused-given, given-one, then-given}
@@ -57,8 +55,7 @@ use Rattle.rules.proofs.EntryLaws.{judged-on-book, judged-by, closing-r
 use Rattle.rules.proofs.EntryLaws.{closing-on-book, closing-book-given, lot-moves, lettered-on-book, lettered-by}
 use Rattle.rules.proofs.SMethod.{out-means, out-when, all-in}
 use Rattle.rules.proofs.SampleLaws.{items-refused, items-given}
-use Rattle.rules.proofs.SampleLaws.{readings-refused, readings-given, unfit, fits}
-use Rattle.rules.proofs.SampleLaws.{fit-so, unfit-when}
+use Rattle.rules.proofs.SampleLaws.{unfit, fits, fit-so, unfit-when}
 use Rattle.rules.proofs.Moving.{move-took, took-moves, typed-counts, sampled-counts}
 use Rattle.rules.proofs.Supplies.{move-refused}
 use Rattle.rules.proofs.EventLaws.{first-bad}
@@ -160,14 +157,16 @@ module _ (q : Asked) (book : List ℕ) where
   unfolding sequentialPlan fromBook
   sequential-plan-given = book-plan-given sequentialSection sequentialNeeds sequentialOf q book
 
-  pub variables-plan-refused : OnBook book (VariablesPlanRows q book) (variablesPlan q book)
-  unfolding variablesPlan fromBook
-  variables-plan-refused = book-plan-reports variablesSection variablesNeeds variablesOf q book
+  -- for readings, of the fourth section or the fifth
+  pub readings-plan-refused : (section : ℕ)
+      → OnBook book (ReadingsPlanRows section q book) (readingsPlan section q book)
+  unfolding readingsPlan fromBook
+  readings-plan-refused section = book-plan-reports section variablesNeeds variablesOf q book
 
-  pub variables-plan-given : (plan : VariablesPlan)
-      → (variablesPlan q book ≡ given plan) ↔ Supplies variablesSection variablesNeeds variablesOf q book plan
-  unfolding variablesPlan fromBook
-  variables-plan-given = book-plan-given variablesSection variablesNeeds variablesOf q book
+  pub readings-plan-given : (section : ℕ) (plan : VariablesPlan)
+      → (readingsPlan section q book ≡ given plan) ↔ Supplies section variablesNeeds variablesOf q book plan
+  unfolding readingsPlan fromBook
+  readings-plan-given section = book-plan-given section variablesNeeds variablesOf q book
 
   -- Published with the lot's Table 1 letter: refused as the plan is, given exactly with that letter and that plan.
   pub staged-lettered-refused : OnBook book (StagedPlanRows q book) (lettered q (stagedPlan q book))
@@ -188,14 +187,15 @@ module _ (q : Asked) (book : List ℕ) where
       × Supplies sequentialSection sequentialNeeds sequentialOf q book (x .plan))
   sequential-lettered-given = lettered-by q (sequentialPlan q book) _ sequential-plan-given
 
-  pub variables-lettered-refused : OnBook book (VariablesPlanRows q book) (lettered q (variablesPlan q book))
-  variables-lettered-refused = lettered-on-book q (variablesPlan q book) book variables-plan-refused
+  pub variables-lettered-refused : OnBook book (ReadingsPlanRows variablesSection q book)
+      (lettered q (variablesPlan q book))
+  variables-lettered-refused = lettered-on-book q (variablesPlan q book) book (readings-plan-refused variablesSection)
 
   pub variables-lettered-given : (x : Lettered VariablesPlan)
       → (lettered q (variablesPlan q book) ≡ given x)
       ↔ ((letterOf (q .size) (q .level) ≡ x .letter)
       × Supplies variablesSection variablesNeeds variablesOf q book (x .plan))
-  variables-lettered-given = lettered-by q (variablesPlan q book) _ variables-plan-given
+  variables-lettered-given = lettered-by q (variablesPlan q book) _ (readings-plan-given variablesSection)
 
 -- 3. A lot judged: its plan, and then its sample. Where there is no plan, the plan's refusal.
 module _ (q : Asked) (book sample : List ℕ) where
@@ -250,22 +250,6 @@ module _ (q : Asked) (book sample : List ℕ) where
   judge-sequential-given j =
       judged-by (sequentialPlan q book) (λ plan. judgeSequence plan sample) (λ plan v. EndsAtItem plan sample v)
       (λ plan v. sequence-decided plan sample v) j
-
-  pub judge-variables-refused : (upper : Bool) (limit : ℤ)
-      → OnBook book (Then (VariablesPlanRows q book) (variablesPlan q book) (ReadingRows limit sample))
-      (judgeVariables upper q book limit sample)
-  unfolding judgeVariables
-  judge-variables-refused upper limit =
-      judged-on-book (variablesPlan q book) _ book (variables-plan-refused q book)
-      (λ plan. seen-from 1 (omega arith) (readings-refused upper limit sample plan))
-
-  pub judge-variables-given : (upper : Bool) (limit : ℤ) (j : Judged VariablesPlan Verdict)
-      → (judgeVariables upper q book limit sample ≡ given j)
-      ↔ ((variablesPlan q book ≡ given (j .plan)) × ReadingsJudged upper limit sample (j .plan) (j .verdict))
-  unfolding judgeVariables
-  judge-variables-given upper limit j =
-      judged-by (variablesPlan q book) (λ plan. judgeReadings upper plan limit sample)
-      (ReadingsJudged upper limit sample) (readings-given upper limit sample) j
 
 -- 4. A lot by its total, on a bench without a book. 6 under reduced inspection, 8 for a total over n where items count.
 module _ (q : Asked) where
@@ -484,8 +468,7 @@ module _ (bytes : List ℕ) where
           × (shownOf (length bytes / 2) (sumZ (readingsOf bytes)) (squaresZ (readingsOf bytes)) ≡ s))
       two = two-given _ _ 7 9 _ s
 
--- 8. A sample judged on a plan that is handed over: 4 for a column over 25 where the column says which items are legal,
--- 6 for a variables plan that no sound book could hold.
+-- 8. A sample judged on a plan that is handed over: 4 for a column over 25 where the column says which items are legal.
 pub column-reports : {A : Type 0} {more : ℕ → Type 0} {rest : Answer A} (column : ℕ) → Reports 7 more rest
     → Reports 4 (Row 4 (25 < column) more) (cond (ltb 25 column) (refused 4 0) rest)
 column-reports column r = check 4 (ltb 25 column) (ltb-true 25 column) (lt-ltb 25 column) (omega arith) r
@@ -533,29 +516,6 @@ module _ (bytes : List ℕ) where
   pub sequential-sample-given : (plan : SequentialPlan) (v : Verdict)
       → (judgeSequence plan bytes ≡ given v) ↔ EndsAtItem plan bytes v
   sequential-sample-given plan v = sequence-decided plan bytes v
-
-  module _ (upper : Bool) (limit : ℤ) (plan : VariablesPlan) where
-    couldBe : Bool
-    couldBe = couldHold variables (variablesEntry plan)
-
-    pub variables-sample-refused :
-        Reports 6 (Row 6 (couldHold variables (variablesEntry plan) ≡ false) (ReadingRows limit bytes plan))
-        (variablesSample upper plan limit bytes)
-    unfolding variablesSample couldBe
-    variables-sample-refused =
-        check 6 (not couldBe) (not-true couldBe) (λ f. ap not f) (omega arith)
-        (readings-refused upper limit bytes plan)
-
-    pub variables-sample-given : (v : Verdict)
-        → (variablesSample upper plan limit bytes ≡ given v)
-        ↔ ((couldHold variables (variablesEntry plan) ≡ true) × ReadingsJudged upper limit bytes plan v)
-    unfolding variablesSample couldBe
-    variables-sample-given v =
-        let iff = first-given (unlessHeld variables (variablesEntry plan) ∷ []) (judgeReadings upper plan limit bytes) v
-        in (
-          λ g. (not-false couldBe (iff .0 g .0 .0), readings-given upper limit bytes plan v .0 (iff .0 g .1)),
-          λ s. iff .1 ((ap not (s .0), tt), readings-given upper limit bytes plan v .1 (s .1)),
-        )
 
 -- 9. The severities of a history: its first bad byte, with its place; then 11 for a buffer shorter than the history.
 module _ (w : Work) (h : List ℕ) where

@@ -132,8 +132,8 @@ module _ (s : Supply) (o : Offered) where
   close-total-size total c h =
       judge-total-size asked total (c .judged) (two.close-total-given s o total c .0 h .as-judged)
 
--- 3. A sample on a plan that is handed over is judged by n and Ac alone, whatever else the plan says: the caller has the
--- plan, and so both figures.
+-- 3. A sample on a plan that is handed over is judged by n and Ac alone, whatever else the plan says: the caller has
+-- the plan, and so both figures.
 module _ (column : ℕ) (p q : Plan) (same-n : p .n ≡ q .n) (same-ac : p .ac ≡ q .ac) (sample : List ℕ) where
   pub single-n-alone : singleSample column p sample ≡ singleSample column q sample
   unfolding singleSample judgeItems

@@ -4,18 +4,17 @@
 use Prim.Native.Nat.{ℕ, zero, suc, _+_, _*_, _≤_, _<_}
 use mathlib.Core.Path.{_≡_, refl, ap, sym, _∙_}
 use mathlib.Core.Logic.{_↔_, _⊎_, inl, inr}
-use mathlib.Core.Bool.{Bool, true, false, cond, _||_, true≢false, or-true}
+use mathlib.Core.Bool.{Bool, true, false, _||_, true≢false, or-true}
 use mathlib.Core.List.{List, [], _∷_, map}
 use native.Mathlib.Nat.{le-refl}
 use native.Mathlib.Omega.{arith}
 use borrow.Author.Tests.{lt-ltb, le-ltb, ltb-true, ltb-false, leb-true, leb-false, le-leb, lt-leb}
 use lib.Dec.{ltb, leb}
-use lib.ListN.{length, getD, take, drop, length-map}
-use lib.Seq.{take-all}
+use lib.ListN.{length, getD, drop, length-map}
 use Rattle.rules.specs.Refusals.{Answer, refused, given, _gives_, firstOf, noPlan, bufferShort, brokenBook}
 use Rattle.rules.specs.Numbers.{numbersOf, numberBytes}
-use Rattle.rules.specs.Book.{Kind, ends, broken, short, Walk, sections, kinds, kindAt}
-use Rattle.rules.specs.Book.{Checked, sound, brokenAt, largestBook, checkBook, checkedAs, onSound}
+use Rattle.rules.specs.Book.{Kind, ends, kinds, kindAt, allSections}
+use Rattle.rules.specs.Book.{Checked, sound, brokenAt, largestBook, checkBook, onSound}
 use Rattle.rules.specs.Layout.{sectionFrom, entryAt}
 use Rattle.rules.specs.Reporting.{NoRow, OnBook, Row}
 use Rattle.rules.specs.Writing.{Rows, rowOf, lentRows, checkLists, laidLists}
@@ -25,20 +24,19 @@ use Rattle.rules.specs.Writable.{tidy}
 use Rattle.rules.specs.Writable.{Alike, joined, lentFrom}
 use Rattle.rules.proofs.Answers.{refused-given, given-one}
 use Rattle.rules.proofs.Bools.{or-neither}
-use Rattle.rules.proofs.BadEntries.{Finds, entries-find, all-rowed}
+use Rattle.rules.proofs.BadEntries.{Finds, entries-find}
 use Rattle.rules.proofs.Bounded.{never}
 use Rattle.rules.proofs.EntryLaws.{on-book, sound-given, two-given}
 use Rattle.rules.proofs.FewKeys.{entry-near}
 use Rattle.rules.proofs.LentRows.{rowsOf, rows-lent}
-use Rattle.rules.proofs.LookUp.{broken-unsound}
-use Rattle.rules.proofs.Numbers.{numbers-low, numbers-back, bytes-twice, bytes-back}
+use Rattle.rules.proofs.LookUp.{sound-whole}
+use Rattle.rules.proofs.Numbers.{numbers-back, bytes-twice, bytes-back}
 use Rattle.rules.proofs.Refusals.{check, nothing-wrong, seen-from}
 use Rattle.rules.proofs.RowLaws.{rowed, row-length}
 use Rattle.rules.proofs.Steps.{book-is, at-end}
-use Rattle.rules.proofs.Walks.{place-ends, place-sections}
 use Rattle.rules.proofs.Written.{lists-each, mapped, tidy-alike}
-use Rattle.rules.proofs.Written.{all-read, all-back, lists-again, sectionRows, shown-count, shown-at}
-use Rattle.rules.proofs.Written.{alike-lists}
+use Rattle.rules.proofs.Written.{all-rowed, all-read, all-back, all-again, sectionRows, shown-count}
+use Rattle.rules.proofs.Written.{shown-at, alike-lists}
 
 -- ---- write_book: 12 exactly at the first bad entry, then 11 exactly where there is no room, and else the book
 
@@ -125,11 +123,11 @@ module _ (rows : ℕ → Rows) (room : ℕ) where
   write-given b = by-given (checkLists kinds 0 0 rows) full (entries-find rows) not-full full-so is-full b
 
   -- a position is told whole: there are few keys, so the first bad entry is not far
-  pub write-near : (n q : ℕ) → writeBook rows room ≡ refused n q → q ≤ 8112
+  pub write-near : (n q : ℕ) → writeBook rows room ≡ refused n q → q ≤ 10140
   unfolding writeBook
   write-near n q e = go (checkLists kinds 0 0 rows) refl full e
     where
-      go : (c : Checked) → checkLists kinds 0 0 rows ≡ c → (t : Bool) → answer c t ≡ refused n q → q ≤ 8112
+      go : (c : Checked) → checkLists kinds 0 0 rows ≡ c → (t : Bool) → answer c t ≡ refused n q → q ≤ 10140
       go sound f true h = let z : 0 ≡ q = cc in omega arith
       go sound f false h = absurd (refused-given (sym h))
       go (brokenAt p) f t h =
@@ -170,16 +168,16 @@ module _ (rows : ℕ → Rows) (room : ℕ) (book : List ℕ) (given-book : writ
   pub written-sound : checkBook book ≡ sound
   written-sound =
       let ws = laidLists kinds 0 rows in
-      let read : sections kinds (numbersOf book) ≡ ends (length ws) =
-      ap (sections kinds) numbers-are ∙ all-read kinds all-rowed rows right in
-      book-is book (ends (length ws)) (writes .not-long) (sym read)
-      ∙ at-end (length book) (length ws) (omega (arith, ap length (writes .is-book), bytes-twice ws))
+      let twice : length book ≡ 2 * length ws = ap length (writes .is-book) ∙ bytes-twice ws in
+      let read : allSections (length book) (numbersOf book) ≡ ends (length ws) =
+      ap (allSections (length book)) numbers-are ∙ all-read rows right (length book) twice in
+      book-is book (ends (length ws)) (writes .not-long) (sym read) ∙ at-end (length book) (length ws) (omega arith)
 
   -- "reading a written book gives back the entries (places past an entry's own stages count for nothing)"
   pub read-written : (j : ℕ) → j < length kinds → readEntries (numbersOf book) j ≡ map (tidy (kindAt j)) (rows j)
   unfolding readEntries
   read-written j l =
-      rw (lt-ltb j (length kinds) l, numbers-are) (all-back kinds all-rowed rows right j l)
+      rw (lt-ltb j (length kinds) l, numbers-are) (all-back rows right j l)
 
   -- the entries that are read are those that were lent, in the same order
   pub read-alike : (j : ℕ) → j < length kinds → Alike (kindAt j) (rows j) (readEntries (numbersOf book) j)
@@ -195,35 +193,6 @@ module _ (rows : ℕ → Rows) (room : ℕ) (book : List ℕ) (given-book : writ
 
 -- ---- a sound book, written again
 
--- where a sound book ends
-record Whole (book : List ℕ) : Type 0 where
-  end : ℕ
-  read : sections kinds (numbersOf book) ≡ ends end
-  up-to : length book ≤ 2 * end
-  not-long : length book ≤ largestBook
-
-sound-whole : (book : List ℕ) → checkBook book ≡ sound → Whole book
-unfolding checkBook checkedAs
-sound-whole book e =
-    go (ltb largestBook (length book)) (sections kinds (numbersOf book)) refl refl e
-  where
-    go : (t : Bool) (w : Walk) → ltb largestBook (length book) ≡ t → sections kinds (numbersOf book) ≡ w
-        → cond t (brokenAt largestBook) (checkedAs (length book) w) ≡ sound → Whole book
-    go true w p q h = broken-unsound h
-    go false (ends n) p q h = at (ltb (2 * n) (length book)) refl h
-      where
-        at : (t : Bool) → ltb (2 * n) (length book) ≡ t → cond t (brokenAt (2 * n)) sound ≡ sound → Whole book
-        at true r g = broken-unsound g
-        at false r g =
-            record {
-              end = n;
-              read = q;
-              up-to = ltb-false (2 * n) (length book) r;
-              not-long = ltb-false largestBook (length book) p;
-            }
-    go false (broken n) p q h = broken-unsound h
-    go false short p q h = broken-unsound h
-
 -- the entries of a section
 read-is : (ws : List ℕ) (j : ℕ) → j < length kinds → readEntries ws j ≡ sectionRows (kindAt j) (sectionFrom j ws)
 unfolding readEntries
@@ -236,16 +205,8 @@ module _ (book : List ℕ) (good : checkBook book ≡ sound) (bytes : (i : ℕ) 
   module _ (rows : ℕ → Rows) (same : (j : ℕ) → j < length kinds → rows j ≡ readEntries ws j) where
     again : (checkLists kinds 0 0 rows ≡ sound) × (bookOf rows ≡ book)
     again =
-        let w = sound-whole book good in
-        let there : w .end ≤ length ws =
-        omega (arith, place-ends _ (w .end) (sym (w .read)), place-sections kinds ws) in
-        let all : take (w .end) ws ≡ ws = take-all (w .end) ws (omega (arith, w .up-to, numbers-low book)) in
-        let even : length book ≡ 2 * length ws = omega (arith, w .up-to, numbers-low book) in
-        let l = lists-again kinds all-rowed ws (w .end) (w .read) 0 0 rows
-        (λ i l.
-        let z : 0 + i ≡ i = omega arith in
-        ap rows z ∙ same i l ∙ read-is ws i l) in
-        (l .0, ap numberBytes (l .1 ∙ all) ∙ bytes-back book even bytes)
+        let l = all-again book good rows (λ i l. same i l ∙ read-is ws i l) in
+        (l .0, ap numberBytes (l .1) ∙ bytes-back book (l .2) bytes)
 
     -- "writing a read book gives back its bytes"
     read-again : (room : ℕ) → length book ≤ room → writeBook rows room ≡ given book

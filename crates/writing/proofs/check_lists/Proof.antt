@@ -16,11 +16,11 @@ use Rattle.writing.proofs.check_lists.Statement.{statement}
 use Rattle.writing.proofs.check_lists.Tie as tie
 
 abbrev Inv-loop : tie.InvT-loop
-Inv-loop reduced staged sequential variables before₀ size₀ kind₀ before size kind =
-    InLists (lentRows (lists reduced staged sequential variables)) kind before size
+Inv-loop reduced staged sequential variables sigma before₀ size₀ kind₀ before size kind =
+    InLists (lentRows (lists reduced staged sequential variables sigma)) kind before size
 
 abbrev μ-loop : tie.MeasureT-loop
-μ-loop reduced staged sequential variables before₀ size₀ kind₀ before size kind = length kinds - kind
+μ-loop reduced staged sequential variables sigma before₀ size₀ kind₀ before size kind = length kinds - kind
 
 -- what the check of a list promises, said of the lists
 module _ (d : tie.After-check-list Inv-loop μ-loop) where
@@ -29,8 +29,8 @@ module _ (d : tie.After-check-list Inv-loop μ-loop) where
 
   abbrev lent : ℕ → Rows
   lent =
-      let a = d .before .before .before .before .before .before .before .before .args in
-      lentRows (lists (now (a .reduced)) (now (a .staged)) (now (a .sequential)) (now (a .variables)))
+      let a = d .before .before .before .before .before .before .before .before .before .args in
+      lentRows (lists (now (a .reduced)) (now (a .staged)) (now (a .sequential)) (now (a .variables)) (now (a .sigma)))
 
   checked : {x : ListCheck} → d .check-list .result ≡ x → ListChecked (kindAt kind) (lent kind) x
   checked e =
@@ -41,8 +41,8 @@ module _ (d : tie.After-check-list Inv-loop μ-loop) where
   inv : InLists lent kind (d .before .before .before .loop .before) (d .before .before .before .loop .size)
   inv = d .before .before .before .loop .inv
 
-add-t14 : tie.Need-add-t14 Inv-loop μ-loop
-add-t14 c =
+add-t15 : tie.Need-add-t15 Inv-loop μ-loop
+add-t15 c =
     let d = c .before .before .before in
     omega (arith, bad-bounded (lent d) (inv d) (omega arith) (checked d (c .before .p .given .1)))
 
@@ -57,22 +57,22 @@ add-before c =
     let b = right-bounded (lent d) (inv d) (omega arith) (checked d (c .before .n .given .1)) in
     omega (arith, b .0, inv d .few, inv d .counted)
 
+section-size-requires : tie.Need-section-size-requires Inv-loop μ-loop
+section-size-requires c κs =
+    let d = c .before .before .before in
+    right-bounded (lent d) (inv d) (omega arith) (checked d (c .before .n .given .1)) .1
+
 add-size : tie.Need-add-size Inv-loop μ-loop
 add-size c =
-    let d = c .before .before .before in
-    let b = right-bounded (lent d) (inv d) (omega arith) (checked d (c .before .n .given .1)) in
-    omega (arith, b .1)
-
-add-size-2 : tie.Need-add-size-2 Inv-loop μ-loop
-add-size-2 c =
-    let d = c .before .before .before in
-    let b = right-bounded (lent d) (inv d) (omega arith) (checked d (c .before .n .given .1)) in
-    omega (arith, b .1, inv d .short, inv d .counted)
+    let d = c .before .before .before .before in
+    let right = c .before .before .n .given in
+    let next = lists-next (lent d) (inv d) (omega arith) (checked d (right .1)) (c .section-size .ensures) in
+    omega (arith, next .short, next .counted)
 
 loop-again : tie.Need-loop-again Inv-loop μ-loop
 loop-again c =
-    let d = c .before .before .before in
-    lists-next (lent d) (inv d) (omega arith) (checked d (c .before .n .given .1))
+    let d = c .before .before .before .before in
+    lists-next (lent d) (inv d) (omega arith) (checked d (c .before .before .n .given .1)) (c .section-size .ensures)
 
 pub check-lists-spec : {M : Type 1} → statement M
 check-lists-spec =
@@ -84,12 +84,12 @@ check-lists-spec =
     (λ c κs. search needs)
     (λ c κs. search needs)
     (λ c. search needs)
-    add-t14
+    add-t15
     returns
     (λ c. search needs)
     add-before
+    section-size-requires
     add-size
-    add-size-2
     (λ c. omega arith)
     (λ c. omega arith)
     loop-again

@@ -11,17 +11,20 @@ use borrow.Author.Needs.{needs}
 use Rattle.writing.proofs.list_of.Statement.{statement}
 use Rattle.writing.proofs.list_of.Tie as tie
 
--- the last of four
-last : (a b c d : List ℕ) (n : ℕ) → n < 4 → None 3 n → d ≡ getD (lists a b c d) n []
-last a b c d n l h =
-    let x : n ≡ 0 → ⊥ = h .0 .0 .1 in
-    let y : n ≡ 1 → ⊥ = h .0 .1 in
-    let z : n ≡ 2 → ⊥ = h .1 in
-    let three : n ≡ 3 = omega arith in
-    rw three
+-- the last of five
+last : (a b c d e : List ℕ) (n : ℕ) → n < 5 → None 4 n → e ≡ getD (lists a b c d e) n []
+last a b c d e n l h =
+    let x : n ≡ 0 → ⊥ = h .0 .0 .0 .1 in
+    let y : n ≡ 1 → ⊥ = h .0 .0 .1 in
+    let z : n ≡ 2 → ⊥ = h .0 .1 in
+    let w : n ≡ 3 → ⊥ = h .1 in
+    let four : n ≡ 4 = omega arith in
+    rw four
 
-returns-4 : tie.Need-returns-4
-returns-4 c = last _ _ _ _ (c .before .args .kind) (c .before .pre) (c .match .rest)
+returns-5 : tie.Need-returns-5
+returns-5 c = last _ _ _ _ _ (c .before .args .kind) (c .before .pre) (c .match .rest)
 
 pub list-of-spec : {M : Type 1} → statement M
-list-of-spec = tie.close (tie.spec (λ c. search needs) (λ c. search needs) (λ c. search needs) returns-4)
+list-of-spec =
+    tie.close
+    (tie.spec (λ c. search needs) (λ c. search needs) (λ c. search needs) (λ c. search needs) returns-5)

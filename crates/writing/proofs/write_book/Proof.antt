@@ -16,8 +16,8 @@ use Rattle.writing.proofs.write_book.Tie as tie
 module _ (d : tie.After-check-lists) where
   abbrev lent : ℕ → Rows
   lent =
-      let a = d .before .before .before .before .before .before .args in
-      lentRows (lists (now (a .reduced)) (now (a .staged)) (now (a .sequential)) (now (a .variables)))
+      let a = d .before .before .before .before .before .before .before .args in
+      lentRows (lists (now (a .reduced)) (now (a .staged)) (now (a .sequential)) (now (a .variables)) (now (a .sigma)))
 
   checked : {x : ListCheck} → d .check-lists .result ≡ x → ListsChecked lent x
   checked e = subst (λ (r : ListCheck). ListsChecked lent r) e (d .check-lists .ensures)
