@@ -348,7 +348,7 @@ uint32_t hm_variables_lower(uint32_t size, uint32_t level, uint32_t column, uint
  * The same with a known spread (sigma method), by the plan of the book's fifth section: with the sum S of the readings
  * an upper limit U accepts when 1,000,000 (n U - S) >= K sigma n, a lower one L when 1,000,000 (S - n L) >= K sigma n.
  * How many readings to take is the n of that plan, as the book has it (hm_read_entry, HM_SIGMA_SECTION).
- *   sigma  the spread in thousandths of a gauge unit, 1 to 1,000
+ *   sigma  the spread in thousandths of a gauge unit, 1 to 1,000: choose the unit no finer than the spread
  * Each refuses 1 2 3 4 5 6 7 9 12; 6 also where the book has no fifth section.
  */
 uint32_t hm_sigma_upper(uint32_t size, uint32_t level, uint32_t column, uint32_t severity, const uint8_t *book,
@@ -361,7 +361,8 @@ uint32_t hm_sigma_lower(uint32_t size, uint32_t level, uint32_t column, uint32_t
 /*
  * Judge readings against two separate limits, by the s method or with a known spread: the lot is accepted where the
  * upper limit accepts with the K under the upper column, and the lower limit with the K under the lower column. Both
- * columns are looked up under the lot's severity and letter; they may be the same.
+ * columns are looked up under the lot's severity and letter; they may be the same. That is still no combined control,
+ * one AQL over both limits, which this library does not have: lots that combined control rejects can pass here.
  *   upper_column, lower_column
  *                 the AQL of each limit, as column elsewhere
  *   readings      exactly the n that both plans have: that of hm_variables_plan, or of the book's sigma plans
@@ -371,7 +372,7 @@ uint32_t hm_sigma_lower(uint32_t size, uint32_t level, uint32_t column, uint32_t
  *   used          the n that both plans have
  * Each refuses 1 2 3 4 5 6 7 9 12; 4 for either column; 6 where either has no entry, the two differ in n, or n is
  * above the size. (In the tables of ISO 3951-1 n differs by AQL within a letter, so that most pairs of columns typed
- * from them are 6; in its older edition n is the letter's.)
+ * from them are 6. In its older edition the n of the s method is the letter's; that of the sigma method is not.)
  */
 uint32_t hm_variables_both(uint32_t size, uint32_t level, uint32_t upper_column, uint32_t lower_column,
                            uint32_t severity, const uint8_t *book, size_t book_len, const uint8_t *readings,

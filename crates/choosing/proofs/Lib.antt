@@ -1,5 +1,4 @@
 mod Beside
-mod Joined
 pub mod OneResult
 mod Sizes
 pub mod Supplies

@@ -11,17 +11,18 @@ use Rattle.rules.specs.Refusals.{Answer, refused, given, firstOf, andThen}
 use Rattle.rules.specs.Codes.{letterOf}
 use Rattle.rules.specs.Numbers.{numbersOf}
 use Rattle.rules.specs.Single.{Plan, cutPlan}
+use Rattle.rules.specs.Variables.{VariablesPlan}
 use Rattle.rules.specs.Book.{Checked, sound, brokenAt, checkBook, onSound, kinds, kindAt, reducedSingles}
 use Rattle.rules.specs.Book.{ReducedSingle, reducedOf}
 use Rattle.rules.specs.Layout.{entryOf}
 use Rattle.rules.specs.Entries.{Asked, askedChecks, askedLetter, lookedUp, fromEntry, unlessAbove, Lettered, lettered}
-use Rattle.rules.specs.Entries.{reducedPlan, singlePlan, plainPlan, curtailedPlan}
+use Rattle.rules.specs.Entries.{reducedPlan, singlePlan, plainPlan, curtailedPlan, readingsPlan}
 use Rattle.rules.proofs.Answers.{refused-then, given-one, then-given}
 use Rattle.rules.proofs.Checks.{checks-alike, asked-kept, asked-passed, asked-letter}
 use Rattle.rules.proofs.EntryLaws.{lot-passes, lot-given, sound-given}
 use Rattle.book.specs.Places.{placeHeld}
 use Rattle.book.proofs.PlaceLaws.{on-refused, on-place, place-near}
-use Rattle.choosing.specs.Paper.{SoundIf, placeFor}
+use Rattle.choosing.specs.Paper.{SoundIf, placeFor, unlettered, isGiven}
 
 -- a refusal after the book's own is the same for each entry
 pub refused-alike : {A B : Type 0} (c : Checked) (n p m q : ℕ)
@@ -33,6 +34,18 @@ refused-alike (brokenAt byte) n p m q e = cc
 -- nothing is said of a book that was not checked
 pub unchecked : (book : List ℕ) → SoundIf false book
 unchecked book e = absurd (false≢true e)
+
+-- only a sound book gives a plan
+pub given-sound : (section : ℕ) (q : Asked) (book : List ℕ) (a : Answer VariablesPlan) → a ≡ readingsPlan section q book
+    → SoundIf (isGiven a) book
+unfolding readingsPlan
+given-sound section q book (refused n p) e t = absurd (false≢true t)
+given-sound section q book (given x) e t = sound-given (checkBook book) _ x .0 (sym e) .0
+
+-- a plan without its letter
+pub unlettered-is : {P : Type 0} (q : Asked) (a : Answer P) → unlettered (lettered q a) ≡ a
+unlettered-is q (refused n p) = refl
+unlettered-is q (given x) = refl
 
 -- a book that was checked is not checked again
 pub checked-once : {A B : Type 0} (c : Checked) (a : Answer A) (f : A → Answer B)

@@ -3,8 +3,7 @@ use Prim.Native.Nat.{ℕ}
 use mathlib.Core.Path.{_≡_}
 use mathlib.Core.Bool.{Bool, true, false, cond}
 use mathlib.Core.List.{List}
-use lib.Dec.{ltb, eqb}
-use Rattle.rules.specs.Refusals.{Answer, refused, given, firstOf, andThen, noPlan}
+use Rattle.rules.specs.Refusals.{Answer, refused, given, firstOf, andThen}
 use Rattle.rules.specs.Codes.{letterOf}
 use Rattle.rules.specs.Staged as staged
 use Rattle.rules.specs.Sequential as sequential
@@ -92,14 +91,3 @@ isGiven (given x) = true
 
 abbrev pub sidesPlanned : SidesPlanned → Beside limits.SidesPlan limits.SidesPlan
 sidesPlanned r = record { answer = outcomeOn (r .answer) (sidesPaper (r .plan)); plan = sidesPaper (r .plan) }
-
--- two plans that were looked up make one where they have the same n; of two refusals "the lowest number"
-abbrev pub sameN : variables.VariablesPlan → variables.VariablesPlan → Answer limits.SidesPlan
-sameN u l =
-    cond (eqb (u .n) (l .n)) (given (record { n = u .n; upperK = u .k; lowerK = l .k })) (refused noPlan 0)
-
-abbrev pub joinSides : Answer variables.VariablesPlan → Answer variables.VariablesPlan → Answer limits.SidesPlan
-joinSides (refused n p) (refused m q) = cond (ltb m n) (refused m q) (refused n p)
-joinSides (refused n p) (given l) = refused n p
-joinSides (given u) (refused m q) = refused m q
-joinSides (given u) (given l) = sameN u l

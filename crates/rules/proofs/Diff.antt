@@ -10,6 +10,7 @@ use lib.Dec.{ltb, leb}
 use borrow.Author.Tests.{le-leb, lt-leb, ltb-true, ltb-false, leb-true}
 use lib.IntN.{ℤ, pos, negsuc, subℕ, negℤ, _+ℤ_, _-ℤ_, _*ℤ_}
 use lib.Signed.{leZ}
+use Rattle.rules.proofs.Bools.{same-truth}
 
 abbrev Is : ℤ → ℕ → ℕ → Type 0
 Is (pos n) a b = a ≡ n + b
@@ -68,15 +69,9 @@ diff-raised (negsuc n) a b e =
     let d : Diff (pos a) b (suc n) = rw e (diff-sub b (suc n)) in
     omega arith
 
-pub bool-same : (p q : Bool) → (p ≡ true → q ≡ true) → (q ≡ true → p ≡ true) → p ≡ q
-bool-same true true f g = refl
-bool-same true false f g = sym (f refl)
-bool-same false true f g = g refl
-bool-same false false f g = refl
-
 pub leb-same : (a b c d : ℕ) → (a ≤ b → c ≤ d) → (c ≤ d → a ≤ b) → leb a b ≡ leb c d
 leb-same a b c d f g =
-    bool-same (leb a b) (leb c d) (λ e. le-leb c d (f (leb-true a b e))) (λ e. le-leb a b (g (leb-true c d e)))
+    same-truth (leb a b) (leb c d) (λ e. le-leb c d (f (leb-true a b e))) (λ e. le-leb a b (g (leb-true c d e)))
 
 pub diff-le : {x y : ℤ} {a b c d : ℕ} → Diff x a b → Diff y c d → leZ x y ≡ leb (a + d) (c + b)
 diff-le {x = pos n} {y = pos m} {a} {b} {c} {d} h k = leb-same n m (a + d) (c + b) (omega arith) (omega arith)

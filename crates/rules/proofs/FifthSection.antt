@@ -1,27 +1,29 @@
 -- Document 02, T-07: the fifth section of the plan book, each sentence of it about the book as a law of its own.
 -- Assumes nothing.
-use Prim.Native.Nat.{ℕ, _+_, _*_, _≤_, _<_}
+use Prim.Native.Nat.{ℕ, suc, _+_, _*_, _≤_, _<_}
 use mathlib.Core.Path.{_≡_, refl, ap, sym, _∙_}
-use mathlib.Core.Bool.{cond}
-use mathlib.Core.List.{List, []}
+use mathlib.Core.Bool.{cond, _||_}
+use mathlib.Core.List.{List, [], _∷_, _++_}
 use native.Mathlib.Omega.{arith}
 use borrow.Author.Tests.{lt-ltb, le-ltb}
 use lib.Dec.{ltb}
-use lib.ListN.{length, getD, drop, length-drop}
+use lib.ListN.{length, getD, take, drop, length-drop}
 use lib.Seq.{getD-drop}
+use Rattle.rules.specs.Refusals.{Answer, given, _gives_, firstOf, bufferShort}
 use Rattle.rules.specs.Numbers.{numbersOf, numberBytes}
-use Rattle.rules.specs.Book.{Walk, ends, broken, short, shift, thenFrom, section, sections, sigma, always}
-use Rattle.rules.specs.Book.{fifth, allSections, Checked, sound, brokenAt, checkedAs, largestBook, checkBook}
-use Rattle.rules.specs.Book.{nothing, keyFor, seek, seekIn, fromEnd, lookUp}
+use Rattle.rules.specs.Book.{Kind, Walk, ends, broken, short, shift, thenFrom, section, sections, variables}
+use Rattle.rules.specs.Book.{sigma, always, fifth, allSections, Checked, sound, brokenAt, checkedAs, onSound}
+use Rattle.rules.specs.Book.{largestBook, checkBook, nothing, keyFor, seek, seekIn, fromEnd, lookUp}
 use Rattle.rules.specs.Layout.{fourthEnd, sectionFrom}
-use Rattle.rules.specs.Writing.{Rows, laidLists, bookOf, shown, readEntries}
+use Rattle.rules.specs.Writing.{Rows, checkRows, checkLists, laid, laidSection, laidLists, writeBook}
+use Rattle.rules.specs.Writing.{shown, readEntries}
 use Rattle.rules.proofs.Bounded.{by-le}
 use Rattle.rules.proofs.Demands.Writing.{count-is}
 use Rattle.rules.proofs.Faults.{fourth-ends}
 use Rattle.rules.proofs.LookUp.{broken-unsound, sound-whole, no-fifth, fifth-ended}
 use Rattle.rules.proofs.Numbers.{numbers-low}
-use Rattle.rules.proofs.Written.{section-left}
-use Rattle.rules.proofs.Steps.{book-long, book-is, after-end, at-end, at-broken, at-short, section-short}
+use Rattle.rules.proofs.SectionKinds.{always-kind, always-take}
+use Rattle.rules.proofs.Steps.{book-long, book-is, after-end, at-broken, at-short, section-short}
 use Rattle.rules.proofs.Steps.{fifth-none, fifth-empty, fifth-is, all-next}
 
 -- the check of document 01: four sections, and nothing follows
@@ -118,15 +120,15 @@ module _ (bytes : List ℕ) where
           let e : p + 0 ≡ p = omega arith in
           fifth-is len p (drop p ws) (omega (arith, numbers-low bytes)) (λ g. rw (getD-drop p ws 0 0, e) some)
 
+      pub with-fifth : checkBook bytes ≡ checkedAs len (shift p (section sigma (drop p ws)))
+      with-fifth = after-four (section sigma (drop p ws)) fifth-section
+
       -- "or at the first byte after the fifth section in place of the fourth"
       pub after-fifth : (s : ℕ) → section sigma (drop p ws) ≡ ends s → 2 * (p + s) < len
           → checkBook bytes ≡ brokenAt (2 * (p + s))
       unfolding shift
-      after-fifth s e h = after-four (ends s) (fifth-section ∙ e) ∙ after-end len (p + s) h
-
-      pub with-fifth : (s : ℕ) → section sigma (drop p ws) ≡ ends s → len ≤ 2 * (p + s) → checkBook bytes ≡ sound
-      unfolding shift
-      with-fifth s e h = after-four (ends s) (fifth-section ∙ e) ∙ at-end len (p + s) h
+      after-fifth s e h =
+          with-fifth ∙ ap (λ (w : Walk). checkedAs len (shift p w)) e ∙ after-end len (p + s) h
 
   -- "as having none": every look-up in it finds nothing, and it has no entries
   module _ (none : len ≤ 2 * fourthEnd bytes) where
@@ -151,8 +153,31 @@ module _ (bytes : List ℕ) where
       fifth-ended len (fourthEnd bytes) (sectionFrom 4 ws) (w .size) (w .after) (λ l e. absurd (omega arith))
       (λ l some e. omega (arith, count-is ws 4 (omega arith)))
 
--- A book written with an empty fifth list is that of the four lists before it.
-pub written-as-before : (rows : ℕ → Rows) → length (rows 4) ≡ 0 → bookOf rows ≡ numberBytes (laidLists always 0 rows)
-unfolding laidLists
-written-as-before rows none =
-    rw (section-left sigma (rows 4) none)
+-- A look-up in the first four sections is as before.
+pub found-as-before : (j : ℕ) → j < 4 → (severity letter column : ℕ) (ws : List ℕ)
+    → let k = getD always j variables in
+    lookUp j severity letter column ws
+    ≡ fromEnd (sections (take j always) ws) (λ p. seekIn k (keyFor k severity letter column) (drop p ws))
+unfolding lookUp
+found-as-before j l severity letter column ws =
+    rw (always-take j (omega arith), always-kind j (omega arith))
+
+-- the book of document 02, T-03: the entries of each of four lists, "each after its count"
+unfoldable pub laidBefore : List Kind → ℕ → (ℕ → Rows) → List ℕ
+laidBefore [] j rows = []
+laidBefore (k ∷ ks) j rows = (length (rows j) ∷ laid k (rows j)) ++ laidBefore ks (suc j) rows
+
+abbrev pub bookBefore : (ℕ → Rows) → List ℕ
+bookBefore rows = numberBytes (laidBefore always 0 rows)
+
+-- and what writing it gave
+unfoldable pub writeBefore : (ℕ → Rows) → ℕ → Answer (List ℕ)
+writeBefore rows room =
+    let size = length (bookBefore rows) in
+    onSound (checkLists always 0 0 rows)
+    (firstOf ((ltb room size || ltb largestBook size gives bufferShort) ∷ []) (given (bookBefore rows)))
+
+-- Where the fifth list is empty, what is written is as before: the book, 12 with its position, and 11.
+pub written-as-before : (rows : ℕ → Rows) (room : ℕ) → rows 4 ≡ [] → writeBook rows room ≡ writeBefore rows room
+unfolding writeBook writeBefore checkLists checkRows laidLists laidSection laidBefore
+written-as-before rows room none = rw none

@@ -27,6 +27,7 @@ pub mod HeldPlans
 pub mod HeldStaged
 pub mod Histories
 pub mod Items
+pub mod Joined
 pub mod Landing
 pub mod Leaving
 pub mod LentRows

@@ -3,7 +3,7 @@
 use Prim.Native.Nat.{ℕ, _*_, _<_}
 use mathlib.Core.Path.{_≡_, refl, sym, ap, _∙_}
 use mathlib.Core.Logic.{_↔_, _⊎_, inl, inr}
-use mathlib.Core.Bool.{Bool, true, false, _&&_, _||_, not, false≢true, true≢false, and-eq-true-iff}
+use mathlib.Core.Bool.{Bool, true, false, _&&_, _||_, not, false≢true, true≢false, and-false, and-eq-true-iff}
 use mathlib.Core.List.{List, [], _∷_}
 use native.Mathlib.Nat.{le-refl}
 use native.Mathlib.Omega.{arith}
@@ -34,7 +34,7 @@ not-below (pos a) (negsuc b) e = refl
 not-below (negsuc a) (pos b) e = absurd (true≢false e)
 not-below (negsuc a) (negsuc b) e = le-leb a b (ltb-false b a e)
 
-at-or-over : (a b : ℤ) → leZ b a ≡ true → ltZ a b ≡ false
+pub at-or-over : (a b : ℤ) → leZ b a ≡ true → ltZ a b ≡ false
 at-or-over (pos a) (pos b) e = le-ltb a b (leb-true b a e)
 at-or-over (pos a) (negsuc b) e = refl
 at-or-over (negsuc a) (pos b) e = absurd (false≢true e)
@@ -72,17 +72,9 @@ limits-when : (limits : Limits) → LimitsOut limits → limitsIn limits ≡ fal
 unfolding limitsIn
 limits-when (one upper limit) o = o
 limits-when (both upper lower) (inl e) = rw e
-limits-when (both upper lower) (inr (inl e)) = rw e (and-no (inGauge upper))
-  where
-    and-no : (a : Bool) → (a && false) ≡ false
-    and-no true = refl
-    and-no false = refl
-limits-when (both upper lower) (inr (inr e)) = rw (at-or-over lower upper e) (none (inGauge upper) (inGauge lower))
-  where
-    none : (a b : Bool) → (a && (b && false)) ≡ false
-    none true true = refl
-    none true false = refl
-    none false b = refl
+limits-when (both upper lower) (inr (inl e)) = rw e (and-false (inGauge upper))
+limits-when (both upper lower) (inr (inr e)) =
+    rw (at-or-over lower upper e, and-false (inGauge lower)) (and-false (inGauge upper))
 
 -- When a side accepts, and when both do.
 side-exactly : (m : Spread) (upper : Bool) (n k : ℕ) (limit : ℤ) (xs : List ℤ)
@@ -139,9 +131,9 @@ module _ (m : Spread) (limits : Limits) (bytes : List ℕ) (plan : SidesPlan) wh
       never i (the-sigma o) = false≢true (sym (sigma-when m o) ∙ i .1)
       never i (the-limits o) = false≢true (sym (limits-when limits o) ∙ i .2)
 
-  pub readings-refused : Reports 7 (ReadingRows m limits bytes plan) (judgeReadings m limits plan bytes)
+  pub limits-refused : Reports 7 (ReadingRows m limits bytes plan) (judgeReadings m limits plan bytes)
   unfolding judgeReadings
-  readings-refused =
+  limits-refused =
       check 7 (not (eqb (length bytes) (2 * plan .n)))
       (λ t. eqb-false (length bytes) (2 * plan .n) (not-true (eqb (length bytes) (2 * plan .n)) t))
       (λ w. ap not (ne-eqb (length bytes) (2 * plan .n) w)) (omega arith)
@@ -149,10 +141,10 @@ module _ (m : Spread) (limits : Limits) (bytes : List ℕ) (plan : SidesPlan) wh
       (out-so (allInGauge (readingsOf bytes)) (spreadIn m) (limitsIn limits) refl refl refl) out-then (le-refl 9)
       nothing-wrong)
 
-  pub readings-given : (v : Verdict)
+  pub limits-given : (v : Verdict)
       → (judgeReadings m limits plan bytes ≡ given v) ↔ ReadingsJudged m limits bytes plan v
   unfolding judgeReadings
-  readings-given v = (so, back)
+  limits-given v = (so, back)
     where
       accepted : Bool
       accepted = acceptsLimits m limits plan (readingsOf bytes)

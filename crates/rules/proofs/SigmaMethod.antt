@@ -1,10 +1,11 @@
--- A known spread: a negative margin never accepts, equality accepts, and the mean with k sigma on it is what is held
+-- A known spread: no margin, or a negative one, never accepts, equality accepts, and the mean with k sigma on it is what is held
 -- against the limit; what is seen from below is the mirror image of what is seen from above, by either method.
 -- Assumes nothing.
-use Prim.Native.Nat.{ℕ, suc, _+_, _*_}
+use Prim.Native.Nat.{ℕ, suc, _+_, _*_, _≤_}
 use mathlib.Core.Path.{_≡_, refl, sym, _∙_}
 use mathlib.Core.Bool.{true, false}
 use mathlib.Core.List.{List, [], _∷_, map}
+use native.Mathlib.Nat.{mul-le-mul}
 use native.Mathlib.Omega.{arith}
 use borrow.Author.Tests.{le-leb, lt-leb}
 use lib.IntN.{ℤ, pos, negsuc, negℤ, _+ℤ_, _-ℤ_, _*ℤ_}
@@ -20,6 +21,13 @@ pub sigma-negative : (n k sigma m : ℕ) → withinSigma n k sigma (negsuc m) �
 sigma-negative n k sigma m =
     within-sigma-is n k sigma 0 (suc m) (negsuc m) (omega arith)
     ∙ lt-leb (k * sigma * n + 1000000 * suc m) (1000000 * 0) (omega arith)
+
+-- nor does no margin at all, where K, sigma and n are 1 or more
+pub sigma-no-margin : (n k sigma : ℕ) → 1 ≤ n → 1 ≤ k → 1 ≤ sigma → withinSigma n k sigma (pos 0) ≡ false
+sigma-no-margin n k sigma a b c =
+    let some : 1 * 1 * 1 ≤ k * sigma * n = mul-le-mul (mul-le-mul b c) a in
+    within-sigma-is n k sigma 0 0 (pos 0) (diff-pos 0)
+    ∙ lt-leb (k * sigma * n + 1000000 * 0) (1000000 * 0) (omega arith)
 
 -- "Equality accepts": K · sigma · n at 1,000,000 (nU − S)
 pub sigma-equality : (n k sigma m : ℕ) → k * sigma * n ≡ 1000000 * m → withinSigma n k sigma (pos m) ≡ true

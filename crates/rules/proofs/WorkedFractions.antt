@@ -28,7 +28,7 @@ use Rattle.rules.specs.Book.{seek, seekIn, lookUp, every}
 use Rattle.rules.specs.Entries.{Asked, Offered, Closed, singlePlan, fractionalPlan, stagedPlan, plainPlan, moved}
 use Rattle.rules.specs.Entries.{next, judgeSingle, judgeStaged, judgeTotal, judgeFractional, closeSingle}
 use Rattle.rules.specs.Entries.{closeStaged, closeTotal, closeFractional}
-use Rattle.rules.specs.Limits.{known, one}
+use Rattle.rules.specs.Limits.{estimated, known, one, both}
 use Rattle.rules.specs.Runs.{Call, single, fractional, staged, total, byte, event, sequential, readings, entered}
 use Rattle.rules.specs.Runs.{ran}
 use Rattle.rules.proofs.Cases.{Case, _is_, AllAsSaid}
@@ -328,7 +328,7 @@ runCases =
     ∷ (afterTwo (byte 6 ∷ []) is supplyOf (scored 4 0) (clean 2 "B" 15))
     ∷ (afterTwo (byte 7 ∷ []) is supplyOf (onNormal 4 0 false true) (clean 2 "B" 15))
     ∷ (afterTwo (byte 8 ∷ []) is supplyOf (scored 4 0) (clean 2 "B" 15))
-    -- through a resubmitted lot, typed or closed, and a sequential and a variables lot
+    -- through a resubmitted lot, typed or closed, and a sequential lot and lots judged by readings
     ∷ (afterTwo (byte 4 ∷ []) is supplyOf (scored 4 0) (clean 2 "B" 15))
     ∷ (afterTwo (fractional (offered true 8 6 15) noBook (items 3 1) ∷ []) is supplyOf (scored 4 0) (clean 2 "B" 15))
     ∷ (afterTwo (single (offered true 8 6 15) noBook (items 5 2) ∷ []) is supplyOf (scored 4 0) (clean 2 "B" 15))
@@ -336,7 +336,9 @@ runCases =
     ∷ (ran ours (fractional (offered true 8 6 15) noBook (items 3 0) ∷ onB 0 ∷ [])
     is supplyOf (scored 2 0) (clean 1 "B" 15))
     ∷ (afterTwo (sequential (asked normal 8 6 15) noBook [] ∷ []) is supplyOf (scored 4 0) (clean 2 "B" 15))
-    ∷ (afterTwo (readings (known 1) (one true (pos 0)) (asked normal 8 6 15) 15 noBook [] ∷ [])
+    ∷ (afterTwo (readings estimated (one true (pos 0)) (asked normal 8 6 15) 15 noBook [] ∷ [])
+    is supplyOf (scored 4 0) (clean 2 "B" 15))
+    ∷ (afterTwo (readings (known 1) (both (pos 1) (pos 0)) (asked normal 8 6 15) 14 noBook [] ∷ [])
     is supplyOf (scored 4 0) (clean 2 "B" 15))
     -- through what is refused: 10, 1, 6 and 7
     ∷ (afterTwo (byte 9 ∷ []) is supplyOf (scored 4 0) (clean 2 "B" 15))

@@ -62,6 +62,7 @@ readingCases =
     -- no margin, a negative one, seen from either side
     ∷ (tens true (pos 10) 1 1 is (0 ∷ 2 ∷ []))
     ∷ (tens true (pos 9) 1 1 is (0 ∷ 2 ∷ []))
+    ∷ (tens false (pos 10) 1 1 is (0 ∷ 2 ∷ []))
     ∷ (tens false (pos 11) 1 1 is (0 ∷ 2 ∷ []))
     ∷ (tens true (negsuc 999) 1000 4000 is (0 ∷ 2 ∷ []))
     ∷ (tens false (negsuc 999) 1000 4000 is (1 ∷ 2 ∷ []))
@@ -70,12 +71,18 @@ readingCases =
     ∷ (tens true (pos 11) 1 4000 is (1 ∷ 2 ∷ []))
     ∷ (tens true (pos 14) 1000 4000 is (1 ∷ 2 ∷ []))
     ∷ (tens true (pos 14) 1001 4000 is (9 ∷ []))
+    -- the limit out of range
+    ∷ (tens true (pos 1001) 1 1 is (9 ∷ []))
+    ∷ (tens false (negsuc 1000) 1 1 is (9 ∷ []))
     -- two limits: both sides at equality, and each one more; each K on its own side
     ∷ (three (pos 19) (pos 5) 3500 3500 is (1 ∷ 3 ∷ []))
     ∷ (three (pos 19) (pos 5) 3501 3500 is (0 ∷ 3 ∷ []))
     ∷ (three (pos 19) (pos 5) 3500 3501 is (0 ∷ 3 ∷ []))
     ∷ (three (pos 20) (pos 5) 4000 3500 is (1 ∷ 3 ∷ []))
     ∷ (three (pos 20) (pos 5) 3500 4000 is (0 ∷ 3 ∷ []))
+    -- a negative margin on one side, whatever its square
+    ∷ (three (pos 20) (pos 19) 1 1 is (0 ∷ 3 ∷ []))
+    ∷ (three (pos 5) (pos 4) 1 1 is (0 ∷ 3 ∷ []))
     -- limits equal, crossed, and one apart; at the ends of the range, and past them
     ∷ (three (pos 12) (pos 12) 1 1 is (9 ∷ []))
     ∷ (three (pos 5) (pos 19) 1 1 is (9 ∷ []))
@@ -87,6 +94,9 @@ readingCases =
     ∷ (judged (known 1000) (both (pos 11) (pos 9)) 2 1000 1000 (pos 10 ∷ pos 10 ∷ []) is (1 ∷ 2 ∷ []))
     ∷ (judged (known 1000) (both (pos 11) (pos 9)) 2 1001 1000 (pos 10 ∷ pos 10 ∷ []) is (0 ∷ 2 ∷ []))
     ∷ (judged (known 1000) (both (pos 11) (pos 9)) 2 1000 1001 (pos 10 ∷ pos 10 ∷ []) is (0 ∷ 2 ∷ []))
+    -- sigma out of range, limits equal, with a known spread
+    ∷ (judged (known 0) (both (pos 11) (pos 9)) 2 1 1 (pos 10 ∷ pos 10 ∷ []) is (9 ∷ []))
+    ∷ (judged (known 1) (both (pos 10) (pos 10)) 2 1 1 (pos 10 ∷ pos 10 ∷ []) is (9 ∷ []))
     -- 7 before 9
     ∷ (judged (known 0) (both (pos 9) (pos 9)) 2 1 1 (pos 10 ∷ []) is (7 ∷ []))
     ∷ (judged (known 1) (one true (pos 9)) 2 1 1 (pos 1001 ∷ pos 0 ∷ []) is (9 ∷ []))
@@ -101,12 +111,13 @@ unfolding readingCases coded verdictOf judged tens three published judgeReadings
     signedOf
 reading-cases = refl
 
--- three s plans and two sigma plans of letter A under normal; the same without the sigma plans
+-- three s plans and three sigma plans of letter A under normal; the same without the sigma plans
 fourSections : List ℕ
 fourSections = 0 ∷ 0 ∷ 0 ∷ 3 ∷ 0 ∷ 0 ∷ 10 ∷ 3 ∷ 3500 ∷ 0 ∷ 0 ∷ 11 ∷ 3 ∷ 4000 ∷ 0 ∷ 0 ∷ 12 ∷ 4 ∷ 3000 ∷ []
 
 fiveSections : List ℕ
-fiveSections = fourSections ++ (2 ∷ 0 ∷ 0 ∷ 10 ∷ 2 ∷ 1000 ∷ 0 ∷ 0 ∷ 11 ∷ 2 ∷ 2000 ∷ [])
+fiveSections =
+    fourSections ++ (3 ∷ 0 ∷ 0 ∷ 10 ∷ 2 ∷ 1000 ∷ 0 ∷ 0 ∷ 11 ∷ 2 ∷ 2000 ∷ 0 ∷ 0 ∷ 13 ∷ 3 ∷ 1000 ∷ [])
 
 -- a lot of 8 items, level II
 asked : ℕ → ℕ → Asked
@@ -163,6 +174,7 @@ lotCases =
     ∷ (bySigma 1000 (asked 0 11) 10 fiveSections is (0 ∷ 2 ∷ 2000 ∷ 1000 ∷ []))
     ∷ (bySigma 1001 (asked 0 10) 10 fiveSections is (9 ∷ []))
     ∷ (bySigma 1000 (asked 0 12) 12 fiveSections is (6 ∷ []))
+    ∷ (bySigma 1000 (asked 0 10) 13 fiveSections is (6 ∷ []))
     ∷ (bySigma 1000 (asked 0 10) 10 fourSections is (6 ∷ []))
     ∷ (limited (known 1000) true (pos 11) (asked 0 10) fiveSections is (1 ∷ 2 ∷ 1000 ∷ []))
     ∷ (limited (known 1000) false (pos 9) (asked 0 11) fiveSections is (0 ∷ 2 ∷ 2000 ∷ []))

@@ -13,7 +13,7 @@ use Rattle.rules.specs.Book.{right, stagedRule, stagedNumber, acKeeps, r
 use Rattle.rules.specs.Book.{thenFrom, stagedInRow}
 use Rattle.rules.specs.Layout.{entryAt, sectionAt}
 use Rattle.rules.specs.Writing.{Rows, gathered, entryInRow, filled, rowOf, rowsIn, lentRows, rowRight, checkRows}
-use Rattle.rules.specs.Writing.{checkLists, laid, leftOut, laidSection, laidLists, writeBook, shown, readEntries}
+use Rattle.rules.specs.Writing.{checkLists, laid, laidSection, laidLists, writeBook, shown, readEntries}
 use Rattle.rules.specs.Writing.{readEntry}
 use Rattle.rules.proofs.Cases.{Case, _is_, AllAsSaid}
 
@@ -110,5 +110,5 @@ pub worked-rows : AllAsSaid cases
 unfolding reduced staged sequential variables sigma lists book numbersOf numberBytes checkBook checkedAs allSections
     fifth sections section entries entry keyFalls rises numbersFrom right stagedRule stagedNumber acKeeps reKeeps
     sequentialRule atFits shift thenFrom stagedInRow entryAt sectionAt gathered entryInRow filled rowOf rowsIn rowRight
-    checkRows checkLists laid leftOut laidSection laidLists writeBook shown readEntries readEntry cases
+    checkRows checkLists laid laidSection laidLists writeBook shown readEntries readEntry cases
 worked-rows = refl

@@ -17,7 +17,7 @@ use Rattle.rules.specs.Book.{fifth, allSections, Checked, sound, brokenA
 use Rattle.rules.specs.Numbers.{numbersOf}
 use Rattle.rules.specs.Faults.{EntryFault, outOfRange}
 use Rattle.rules.specs.Writing.{Rows, entryInRow, rowOf, rowRight, checkRows, soundThen, checkLists, laid}
-use Rattle.rules.specs.Writing.{leftOut, laidSection, laidLists, shown}
+use Rattle.rules.specs.Writing.{laidSection, laidLists, shown}
 use Rattle.rules.specs.Writable.{Alike, tidy}
 use Rattle.rules.proofs.Bools.{and-left, and-right, true-unless}
 use Rattle.rules.proofs.Bounded.{by-le}
@@ -279,13 +279,13 @@ lists-each (k ∷ ks) j p rows h (suc i) l =
 -- a section is laid, but for a fifth that would have no entry
 pub section-laid : (k : Kind) (j : ℕ) (rows : Rows) → (j ≡ 4 → 0 < length rows)
     → laidSection k j rows ≡ length rows ∷ laid k rows
-unfolding laidSection leftOut
+unfolding laidSection
 section-laid k j rows some =
     by-le (length rows) 0 (λ h. rw (ne-eqb j 4 (λ e. let z : ⊥ = omega (arith, some e) in absurd z)))
     (λ h. rw (ne-eqb (length rows) 0 (λ e. let z : ⊥ = omega arith in absurd z), and-false (eqb j 4)))
 
 pub section-left : (k : Kind) (rows : Rows) → length rows ≡ 0 → laidSection k 4 rows ≡ []
-unfolding laidSection leftOut
+unfolding laidSection
 section-left k rows h = rw (eq-eqb (length rows) 0 h)
 
 -- the first list as it is laid, before what follows it
@@ -589,7 +589,7 @@ alike-laid k r (row ∷ rows) (other ∷ others) a p before =
 pub alike-lists : (ks : List Kind) → AllRowed ks → (j p : ℕ) (rows others : ℕ → Rows)
     → ((i : ℕ) → i < length ks → Alike (getD ks i variables) (rows (j + i)) (others (j + i)))
     → (checkLists ks j p rows ≡ checkLists ks j p others) × (laidLists ks j rows ≡ laidLists ks j others)
-unfolding checkLists laidLists laidSection leftOut
+unfolding checkLists laidLists laidSection
 alike-lists [] all j p rows others a = (refl, refl)
 alike-lists (k ∷ ks) all j p rows others a =
     let z : j + 0 ≡ j = omega arith in

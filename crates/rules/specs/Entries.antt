@@ -162,11 +162,18 @@ variablesPlan = readingsPlan variablesSection
 abbrev pub underColumn : Asked → ℕ → Asked
 underColumn q column = record { severity = q .severity; size = q .size; level = q .level; column = column }
 
--- "6 when the two sides' entries differ in n", or where n is above the lot
+-- "6 when the two sides' entries differ in n"
+abbrev pub unlessSameN : VariablesPlan → VariablesPlan → Check
+unlessSameN u l = not (eqb (u .n) (l .n)) gives noPlan
+
+-- the upper side's plan and the lower side's, where they have the same n
+abbrev pub bothSides : VariablesPlan → VariablesPlan → SidesPlan
+bothSides u l = record { n = u .n; upperK = u .k; lowerK = l .k }
+
+-- .. or where n is above the lot
 abbrev pub fromSides : Asked → VariablesPlan → VariablesPlan → Answer SidesPlan
 fromSides q u l =
-    firstOf ((not (eqb (u .n) (l .n)) gives noPlan) ∷ (ltb (q .size) (u .n) gives noPlan) ∷ [])
-    (given (record { n = u .n; upperK = u .k; lowerK = l .k }))
+    firstOf (unlessSameN u l ∷ (ltb (q .size) (u .n) gives noPlan) ∷ []) (given (bothSides u l))
 
 -- the lot is asked about under its upper column, and a lower one beside it; 4 where either is over 25
 unfoldable pub sidesPlan : ℕ → Asked → ℕ → List ℕ → Answer SidesPlan
@@ -215,7 +222,7 @@ judgeLimit m upper q book limit readings =
     andThen (readingsPlan (sectionFor m) q book)
     (judgedOn (λ plan. judgeReadings m (one upper limit) (sidesOf plan) readings))
 
--- judge_variables_both, judge_sigma_both: for an upper and a lower limit
+-- judge_variables_both, judge_sigma_both: for an upper and a lower limit, each under its own column
 unfoldable pub judgeSides : Spread → Limits → Asked → ℕ → List ℕ → List ℕ → Answer (Judged SidesPlan Verdict)
 judgeSides m limits q lower book readings =
     andThen (sidesPlan (sectionFor m) q lower book) (judgedOn (λ plan. judgeReadings m limits plan readings))

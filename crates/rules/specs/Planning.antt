@@ -3,11 +3,11 @@
 use Prim.Native.Nat.{ℕ, suc, _+_, _≤_, _<_}
 use mathlib.Core.Path.{_≡_}
 use mathlib.Core.Logic.{_⊎_}
-use mathlib.Core.Bool.{true, false}
+use mathlib.Core.Bool.{true, false, cond}
 use mathlib.Core.List.{List, [], _∷_}
-use lib.Dec.{leb}
+use lib.Dec.{leb, ltb}
 use lib.ListN.{length, getD, take}
-use Rattle.rules.specs.Refusals.{Answer, refused, given}
+use Rattle.rules.specs.Refusals.{Answer, refused, given, firstOf}
 use Rattle.rules.specs.Verdict.{Verdict, Judged}
 use Rattle.rules.specs.Codes.{letterOf}
 use Rattle.rules.specs.Single.{sizes, Plan, cutPlan, tablePlan}
@@ -21,7 +21,8 @@ use Rattle.rules.specs.History.{Work, eventIn, after, past}
 use Rattle.rules.specs.Book.{sound, checkBook, found, nothing, stagedOf, sequentialOf, variablesOf}
 use Rattle.rules.specs.Entries.{Asked, lookedUp, reducedSection, stagedSection, sequentialSection}
 use Rattle.rules.specs.Entries.{plainPlan, singlePlan, underColumn, Closed, Offered, askedOn}
-use Rattle.rules.specs.Entries.{fractionalPlan, curtailedPlan}
+use Rattle.rules.specs.Entries.{unlessSameN, bothSides, fractionalPlan, curtailedPlan}
+use Rattle.rules.specs.Variables.{VariablesPlan}
 use Rattle.rules.specs.Limits.{SidesPlan}
 use Rattle.rules.specs.Judging.{ItemRows, CurtailedRows, SameVerdict}
 use Rattle.rules.specs.Reporting.{Row, NoRow, Then}
@@ -132,6 +133,17 @@ pub record SidesSupplied (section : ℕ) (q : Asked) (lower : ℕ) (book : List 
         lowerK = variablesOf lower-entry .k;
       }
       ≡ plan
+
+-- What is looked up for each column alone, joined: "6 when the two sides' entries differ in n"; of two refusals "the
+-- lowest number".
+abbrev pub sameN : VariablesPlan → VariablesPlan → Answer SidesPlan
+sameN u l = firstOf (unlessSameN u l ∷ []) (given (bothSides u l))
+
+abbrev pub joinSides : Answer VariablesPlan → Answer VariablesPlan → Answer SidesPlan
+joinSides (refused n p) (refused m q) = cond (ltb m n) (refused m q) (refused n p)
+joinSides (refused n p) (given l) = refused n p
+joinSides (given u) (refused m q) = refused m q
+joinSides (given u) (given l) = sameN u l
 
 -- A bench without a book. 6 under reduced inspection, 8 for a total over n where items count.
 abbrev pub PlainPlanRows : Asked → ℕ → Type 0

@@ -20,7 +20,7 @@ lotTooSmall = 2
 abbrev pub noSuchLevel : ℕ
 noSuchLevel = 3
 
--- 4: column over 25
+-- 4: column over 25; by document 02, T-07, either of two columns
 abbrev pub noSuchColumn : ℕ
 noSuchColumn = 4
 

@@ -68,12 +68,12 @@ laid k [] = []
 laid k (row ∷ rows) = entryInRow k row ++ laid k rows
 
 -- document 02, T-07: the fifth section, "If present it holds at least one entry", is left out where it would have none
-unfoldable pub leftOut : ℕ → Rows → Bool
-leftOut j rows = eqb j (length always) && eqb (length rows) 0
+abbrev pub leftOut : ℕ → ℕ → Bool
+leftOut j n = eqb j (length always) && eqb n 0
 
 -- the section at place j of the order, "each after its count"
 unfoldable pub laidSection : Kind → ℕ → Rows → List ℕ
-laidSection k j rows = cond (leftOut j rows) [] (length rows ∷ laid k rows)
+laidSection k j rows = cond (leftOut j (length rows)) [] (length rows ∷ laid k rows)
 
 -- the sections from the j-th on
 unfoldable pub laidLists : List Kind → ℕ → (ℕ → Rows) → List ℕ

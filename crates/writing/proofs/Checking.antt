@@ -19,7 +19,7 @@ use Rattle.rules.proofs.Written.{right-so}
 use Rattle.rules.proofs.LentRows.{rows-next, rows-done}
 use Rattle.rules.proofs.FewKeys.{few-right, bad-near, laid-short}
 use Rattle.rows.specs.Paper.{rowSize}
-use Rattle.writing.specs.Paper.{rowsOf, noFifth, sectionSize, InList, InLists, ListChecked, ListsChecked}
+use Rattle.writing.specs.Paper.{rowsOf, sectionSize, InList, InLists, ListChecked, ListsChecked}
 use Rattle.writing.specs.declared.ListCheck.the-variants.{Bad, Right}
 
 -- what the size of a row tells: 0 of one that is not right
@@ -146,15 +146,15 @@ checks-from k p rows e = go (checkRows k 0 [] rows) (sym (check-at k p rows) ∙
 -- how many numbers a section has
 size-is : (k : Kind) (j : ℕ) (rows : Rows) (n more : ℕ) → n ≡ length rows → more ≡ length (laid k rows)
     → sectionSize j n more ≡ length (laidSection k j rows)
-unfolding laidSection leftOut
-size-is k j rows n more e f = rw (e, f) (go (noFifth j (length rows)))
+unfolding laidSection
+size-is k j rows n more e f = rw (e, f) (go (leftOut j (length rows)))
   where
     go : (t : Bool) → cond t 0 (1 + length (laid k rows)) ≡ length (cond t [] (length rows ∷ laid k rows))
     go true = refl
     go false = omega arith
 
 size-bounded : (j n more : ℕ) → sectionSize j n more ≤ 1 + more
-size-bounded j n more = go (noFifth j n)
+size-bounded j n more = go (leftOut j n)
   where
     go : (t : Bool) → cond t 0 (1 + more) ≤ 1 + more
     go true = omega arith

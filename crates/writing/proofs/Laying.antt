@@ -252,7 +252,7 @@ still-layable {before = before} {after = after} l i xs e =
 
 -- a section, which is left out or not
 module _ (k : Kind) (j : ℕ) (rows : Rows) (at : ℕ) (start : List ℕ) where
-  pub section-left : leftOut j rows ≡ true → SectionLaid k j rows at start start at
+  pub section-left : leftOut j (length rows) ≡ true → SectionLaid k j rows at start start at
   unfolding laidSection numberBytes
   section-left e =
       let none : laidSection k j rows ≡ [] = rw e in
@@ -261,7 +261,7 @@ module _ (k : Kind) (j : ℕ) (rows : Rows) (at : ℕ) (start : List ℕ) where
         stored = ap (λ (l : List ℕ). sets start (2 * at) (numberBytes l)) (sym none);
       }
 
-  module _ (e : leftOut j rows ≡ false) where
+  module _ (e : leftOut j (length rows) ≡ false) where
     stands : laidSection k j rows ≡ length rows ∷ laid k rows
     unfolding laidSection
     stands = rw e

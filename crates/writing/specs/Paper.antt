@@ -1,16 +1,15 @@
 -- What the code's enums are on paper, what its loops keep, and what lent memory then holds. Definitions only.
 use Prim.Native.Nat.{ℕ, _+_, _*_, _-_, _≤_}
 use mathlib.Core.Path.{_≡_}
-use mathlib.Core.Bool.{Bool, cond, _&&_}
+use mathlib.Core.Bool.{cond}
 use mathlib.Core.List.{List, [], _∷_, _++_}
-use lib.Dec.{eqb}
 use lib.ListN.{length, take, drop}
 use lib.Seq.{sets}
 use Rattle.rules.specs.Refusals.{Answer, refused, given, andThen}
 use Rattle.rules.specs.Numbers.{numbersOf, numberBytes}
 use Rattle.rules.specs.Terminal.{leftBy}
-use Rattle.rules.specs.Book.{Kind, keyOf, always, kinds, sound, brokenAt}
-use Rattle.rules.specs.Writing.{Rows, rowsIn, checkRows, checkLists, laid, laidSection, laidLists}
+use Rattle.rules.specs.Book.{Kind, keyOf, kinds, sound, brokenAt}
+use Rattle.rules.specs.Writing.{Rows, rowsIn, checkRows, checkLists, laid, leftOut, laidSection, laidLists}
 use Rattle.writing.specs.declared.ListCheck.{ListCheck}
 use Rattle.writing.specs.declared.ListCheck.the-variants as listed
 use Rattle.writing.specs.declared.Written.{Written}
@@ -24,12 +23,9 @@ lists reduced staged sequential variables sigma = reduced ∷ staged ∷ sequent
 abbrev pub rowsOf : Kind → List ℕ → Rows
 rowsOf k list = rowsIn (k .width) (length list) list
 
--- is a section of n entries, at place j of the order, left out? And how many numbers it has, by how many theirs are
-abbrev pub noFifth : ℕ → ℕ → Bool
-noFifth j n = eqb j (length always) && eqb n 0
-
+-- how many numbers a section of n entries at place j of the order has, by how many theirs are
 abbrev pub sectionSize : ℕ → ℕ → ℕ → ℕ
-sectionSize j n numbers = cond (noFifth j n) 0 (1 + numbers)
+sectionSize j n numbers = cond (leftOut j n) 0 (1 + numbers)
 
 -- what checking a list finds, and what checking all lists finds
 abbrev pub ListChecked : Kind → Rows → ListCheck → Type 0

@@ -6,8 +6,8 @@ ghost use lib.ListN.{length, getD};
 ghost use lib.Seq.{sets};
 ghost use Rattle.rules.specs.Numbers.{numberBytes};
 ghost use Rattle.rules.specs.Book.{kinds, kindAt};
-ghost use Rattle.rules.specs.Writing.{lentRows, laid, bookOf, writeBook};
-ghost use Rattle.writing.specs.Paper.{lists, rowsOf, noFifth, sectionSize, ListChecked, ListsChecked};
+ghost use Rattle.rules.specs.Writing.{lentRows, laid, leftOut, bookOf, writeBook};
+ghost use Rattle.writing.specs.Paper.{lists, rowsOf, sectionSize, ListChecked, ListsChecked};
 ghost use Rattle.writing.specs.Paper.{Layable, SectionLayable, SectionLaid, Writable, BookLeft};
 use book::BROKEN_BOOK;
 use book::LARGEST_BOOK;
@@ -77,7 +77,7 @@ fn check_list(kind: usize, list: &[u8]) -> ListCheck
 
 // Is a section of n entries left out? The fifth is, without any.
 fn left_out(kind: usize, n: usize) -> bool
-    ensures { λ r. ⌜ r ≡ noFifth kind n ⌝ }
+    ensures { λ r. ⌜ r ≡ leftOut kind n ⌝ }
 {
     if kind == SIGMA {
         return n == 0;

@@ -6,13 +6,14 @@ use denote.Ref.{now}
 use Rattle.rules.specs.Refusals.{Answer}
 use Rattle.rules.specs.Variables.{VariablesPlan}
 use Rattle.rules.specs.Entries.{Asked, underColumn, readingsPlan, sidesPlan, lettered}
+use Rattle.rules.specs.Planning.{joinSides}
+use Rattle.rules.proofs.Joined.{sides-join}
 use Rattle.plans.specs.Paper.{askedPaper, beside, itself}
 use Rattle.plans.proofs.Standing.{beside-answer}
 use Rattle.choosing.specs.declared.VariablesPlanned.{VariablesPlanned}
 use Rattle.choosing.specs.Paper.{withoutLetter, zeroVariables, zeroSides, variablesPlanned, unlettered, planAlone}
-use Rattle.choosing.specs.Paper.{sectionIf, joinSides}
-use Rattle.choosing.proofs.Joined.{sides-join, unlettered-is, given-sound}
-use Rattle.choosing.proofs.Supplies.{unchecked}
+use Rattle.choosing.specs.Paper.{sectionIf}
+use Rattle.choosing.proofs.Supplies.{unchecked, given-sound, unlettered-is}
 use borrow.Author.Needs.{needs}
 use Rattle.choosing.proofs.sides_plan.Statement.{statement}
 use Rattle.choosing.proofs.sides_plan.Tie as tie

@@ -3,35 +3,36 @@
 use Prim.Native.Nat.{ℕ, max, _<_}
 use mathlib.Core.Path.{_≡_, refl, sym, ap, subst, _∙_}
 use mathlib.Core.Logic.{_↔_, _⊎_, inl, inr}
-use mathlib.Core.Bool.{Bool, true, false, cond, _&&_, not}
+use mathlib.Core.Bool.{Bool, true, false, _&&_, not, false≢true, and-eq-true-iff}
 use mathlib.Core.List.{List, [], _∷_}
 use native.Mathlib.Nat.{le-refl}
 use native.Mathlib.Omega.{arith}
 use borrow.Author.Tests.{ltb-true, ltb-false, lt-ltb, le-ltb, eqb-true, eqb-false, eq-eqb, not-true, not-false}
 use lib.Dec.{ltb, eqb}
 use lib.IntN.{ℤ}
-use Rattle.rules.specs.Refusals.{Answer, refused, given, Check, _gives_, firstOf, andThen, noPlan}
+use lib.Signed.{ltZ}
+use Rattle.rules.specs.Refusals.{Answer, given, _gives_, firstOf, andThen, noPlan}
 use Rattle.rules.specs.Verdict.{Verdict, Judged}
 use Rattle.rules.specs.Variables.{VariablesPlan, readingsOf}
 use Rattle.rules.specs.Limits.{Spread, Limits, one, both, SidesPlan, sidesOf, sideOf, sideAccepts, acceptsLimits}
 use Rattle.rules.specs.Limits.{readingsVerdict, judgeReadings}
-use Rattle.rules.specs.Book.{variables, couldHold, Checked, sound, brokenAt, checkBook, onSound, Found, found}
-use Rattle.rules.specs.Book.{nothing, variablesOf}
-use Rattle.rules.specs.Entries.{Asked, askedChecks, lookedUp, fromEntry, unlessAbove, fromSides, underColumn}
+use Rattle.rules.specs.Book.{variables, couldHold, checkBook, Found, found, nothing, variablesOf}
+use Rattle.rules.specs.Entries.{Asked, lookedUp, fromEntry, bothSides, fromSides, underColumn}
 use Rattle.rules.specs.Entries.{variablesEntry, unlessHeld, readingsSample, readingsPlan, sidesPlan, judgeLimit}
 use Rattle.rules.specs.Entries.{sectionFor, judgeSides}
 use Rattle.rules.specs.Reporting.{NoRow, Reports, OnBook, Row, Then}
 use Rattle.rules.specs.Planning.{Plannable, ReadingsPlanRows, NoSides, no-upper, no-lower, differ, above}
 use Rattle.rules.specs.Planning.{SidesPlanRows, SidesSupplied}
-use Rattle.rules.specs.Judging.{LimitsOut, LimitsAccept, ReadingRows, ReadingsJudged}
+use Rattle.rules.specs.Judging.{LimitsOut, SideAccepts, LimitsAccept, ReadingRows, ReadingsJudged}
 use Rattle.rules.proofs.Answers.{refused-given}
 use Rattle.rules.proofs.Bounded.{by-le}
 use Rattle.rules.proofs.Refusals.{check, stops, nothing-wrong, seen-from, first-given}
 use Rattle.rules.proofs.EntryLaws.{on-book, sound-given, lot-given, lot-passes, two-given, found-something}
 use Rattle.rules.proofs.EntryLaws.{found-one, judged-on-book, judged-by}
 use Rattle.rules.proofs.Bools.{same-truth}
-use Rattle.rules.proofs.LimitLaws.{accepts-exactly, readings-refused, readings-given}
-use Rattle.rules.proofs.Demands.Two.{readings-plan-refused, readings-plan-given}
+use Rattle.rules.proofs.LimitLaws.{at-or-over, accepts-exactly, limits-refused, limits-given}
+use Rattle.rules.proofs.Joined.{sides-join, join-same, join-given}
+use Rattle.rules.proofs.Demands.Two.{readings-plan-refused}
 
 -- 1. What is looked up for two limits: 4 for either column; 6 where a side has no entry, where the two differ in n, or
 -- where n is above the lot.
@@ -157,7 +158,7 @@ module _ (m : Spread) (q : Asked) (book readings : List ℕ) where
   unfolding judgeLimit
   judge-limit-refused upper limit =
       judged-on-book (readingsPlan (sectionFor m) q book) _ book (readings-plan-refused q book (sectionFor m))
-      (λ plan. seen-from 1 (omega arith) (readings-refused m (one upper limit) readings (sidesOf plan)))
+      (λ plan. seen-from 1 (omega arith) (limits-refused m (one upper limit) readings (sidesOf plan)))
 
   pub judge-limit-given : (upper : Bool) (limit : ℤ) (j : Judged VariablesPlan Verdict)
       → (judgeLimit m upper q book limit readings ≡ given j)
@@ -168,7 +169,7 @@ module _ (m : Spread) (q : Asked) (book readings : List ℕ) where
       judged-by (readingsPlan (sectionFor m) q book)
       (λ plan. judgeReadings m (one upper limit) (sidesOf plan) readings)
       (λ plan. ReadingsJudged m (one upper limit) readings (sidesOf plan))
-      (λ plan. readings-given m (one upper limit) readings (sidesOf plan)) j
+      (λ plan. limits-given m (one upper limit) readings (sidesOf plan)) j
 
   module _ (limits : Limits) (lower : ℕ) where
     pub judge-sides-refused :
@@ -179,7 +180,7 @@ module _ (m : Spread) (q : Asked) (book readings : List ℕ) where
     unfolding judgeSides
     judge-sides-refused =
         judged-on-book (sidesPlan (sectionFor m) q lower book) _ book (sides-plan-refused (sectionFor m) q lower book)
-        (λ plan. seen-from 1 (omega arith) (readings-refused m limits readings plan))
+        (λ plan. seen-from 1 (omega arith) (limits-refused m limits readings plan))
 
     pub judge-sides-given : (j : Judged SidesPlan Verdict)
         → (judgeSides m limits q lower book readings ≡ given j)
@@ -188,7 +189,7 @@ module _ (m : Spread) (q : Asked) (book readings : List ℕ) where
     unfolding judgeSides
     judge-sides-given j =
         judged-by (sidesPlan (sectionFor m) q lower book) (λ plan. judgeReadings m limits plan readings)
-        (ReadingsJudged m limits readings) (readings-given m limits readings) j
+        (ReadingsJudged m limits readings) (limits-given m limits readings) j
 
 -- 3. Readings judged on a plan that is handed over: 6 where no sound book could hold a side's.
 module _ (m : Spread) (limits : Limits) (plan : SidesPlan) (bytes : List ℕ) where
@@ -203,7 +204,7 @@ module _ (m : Spread) (limits : Limits) (plan : SidesPlan) (bytes : List ℕ) wh
   readings-sample-refused =
       check 6 (not (couldBe true)) (not-true (couldBe true)) (λ f. ap not f) (le-refl 6)
       (check 6 (not (couldBe false)) (not-true (couldBe false)) (λ f. ap not f) (omega arith)
-      (readings-refused m limits bytes plan))
+      (limits-refused m limits bytes plan))
 
   pub readings-sample-given : (v : Verdict)
       → (readingsSample m limits plan bytes ≡ given v)
@@ -219,64 +220,32 @@ module _ (m : Spread) (limits : Limits) (plan : SidesPlan) (bytes : List ℕ) wh
             let n = iff .0 g .0 in (
               not-false (couldBe true) (n .0),
               not-false (couldBe false) (n .1 .0),
-              readings-given m limits bytes plan v .0 (iff .0 g .1),
+              limits-given m limits bytes plan v .0 (iff .0 g .1),
             ),
         λ s.
             iff .1
-            ((ap not (s .0), (ap not (s .1), tt)), readings-given m limits bytes plan v .1 (s .2)),
+            ((ap not (s .0), (ap not (s .1), tt)), limits-given m limits bytes plan v .1 (s .2)),
       )
 
--- 4. Both columns the same: what is looked up for two limits is what is looked up for one, its K on both sides.
-sound-then : {A B : Type 0} (c : Checked) (a : Answer A) (k : A → Answer B)
-    → andThen (onSound c a) k ≡ onSound c (andThen a k)
-sound-then sound a k = refl
-sound-then (brokenAt byte) a k = refl
-
-checks-then : {A B : Type 0} (cs : List Check) (a : Answer A) (k : A → Answer B)
-    → andThen (firstOf cs a) k ≡ firstOf cs (andThen a k)
-checks-then [] a k = refl
-checks-then (c ∷ cs) a k = on (c .wrong) (checks-then cs a k)
-  where
-    on : (t : Bool) → andThen (firstOf cs a) k ≡ firstOf cs (andThen a k)
-        → andThen (cond t (refused (c .number) (c .place)) (firstOf cs a)) k
-        ≡ cond t (refused (c .number) (c .place)) (firstOf cs (andThen a k))
-    on true more = refl
-    on false more = more
-
-module _ (q : Asked) where
-  abbrev oneFrom : Found → Answer VariablesPlan
-  oneFrom f = fromEntry f (λ e. unlessAbove (q .size) (variablesOf e .n) (variablesOf e))
-
-  same-entry : (f : Found)
-      → fromEntry f (λ e. fromEntry f (λ d. fromSides q (variablesOf e) (variablesOf d)))
-      ≡ andThen (oneFrom f) (λ p. given (sidesOf p))
-  same-entry nothing = refl
-  same-entry (found e) =
-      rw (eq-eqb (variablesOf e .n) (variablesOf e .n) refl)
-      (sym (checks-then ((ltb (q .size) (variablesOf e .n) gives noPlan) ∷ []) (given (variablesOf e)) _))
-
+-- 4. What is looked up for two limits is what is looked up for each column alone, joined (sides-join). Both columns the
+-- same: it is what is looked up for one limit, its K on both sides.
 pub one-column : (section : ℕ) (q : Asked) (book : List ℕ)
     → sidesPlan section q (q .column) book ≡ andThen (readingsPlan section q book) (λ p. given (sidesOf p))
-unfolding sidesPlan readingsPlan
-one-column section q book =
-    let k : VariablesPlan → Answer SidesPlan = λ p. given (sidesOf p) in
-    let f = lookedUp section q book in
-    let same : max (q .column) (q .column) ≡ q .column = omega arith in
-    rw (same, same-entry q f)
-    (sym (sound-then (checkBook book) (firstOf (askedChecks q) (oneFrom q f)) k
-    ∙ ap (onSound (checkBook book)) (checks-then (askedChecks q) (oneFrom q f) k)))
+one-column section q book = sides-join section q (q .column) book ∙ join-same (readingsPlan section q book)
 
 -- 5. Two limits are two verdicts for one limit, each under its own column with its own K, and "accept only if both
 -- sides accept".
 module _ (m : Spread) (q : Asked) (lower : ℕ) (book readings : List ℕ) (u l : ℤ) (j : Judged SidesPlan Verdict)
     (g : judgeSides m (both u l) q lower book readings ≡ given j) where
-  sides : SidesSupplied (sectionFor m) q lower book (j .plan)
-  sides =
-      sides-plan-given (sectionFor m) q lower book (j .plan) .0
-      (judge-sides-given m q book readings (both u l) lower j .0 g .0)
-
   judged : ReadingsJudged m (both u l) readings (j .plan) (j .verdict)
   judged = judge-sides-given m q book readings (both u l) lower j .0 g .1
+
+  plans : (readingsPlan (sectionFor m) q book ≡ given (sideOf true (j .plan)))
+      × (readingsPlan (sectionFor m) (underColumn q lower) book ≡ given (sideOf false (j .plan)))
+  plans =
+      join-given _ _ (j .plan) .0
+      (sym (sides-join (sectionFor m) q lower book)
+      ∙ judge-sides-given m q book readings (both u l) lower j .0 g .0)
 
   -- the verdict of a side by itself
   abbrev sideVerdict : Bool → ℤ → Verdict
@@ -294,7 +263,7 @@ module _ (m : Spread) (q : Asked) (lower : ℕ) (book readings : List ℕ) (u l 
   side-judged : (upper : Bool) (limit : ℤ) → (LimitsOut (one upper limit) → ⊥)
       → judgeReadings m (one upper limit) (sidesOf (sideOf upper (j .plan))) readings ≡ given (sideVerdict upper limit)
   side-judged upper limit inside =
-      readings-given m (one upper limit) readings (sidesOf (sideOf upper (j .plan))) (sideVerdict upper limit) .1
+      limits-given m (one upper limit) readings (sidesOf (sideOf upper (j .plan))) (sideVerdict upper limit) .1
       (record {
         whole = judged .whole;
         readings-in = judged .readings-in;
@@ -304,45 +273,71 @@ module _ (m : Spread) (q : Asked) (lower : ℕ) (book readings : List ℕ) (u l 
         verdict = refl;
       })
 
-  upper-plan : readingsPlan (sectionFor m) q book ≡ given (sideOf true (j .plan))
-  upper-plan =
-      readings-plan-given q book (sectionFor m) (sideOf true (j .plan)) .1
-      (record {
-        book-sound = sides .book-sound;
-        lot = sides .lot;
-        entry = sides .upper-entry;
-        under-key = sides .upper-under-key;
-        within-lot = sides .within-lot;
-        is-plan = ap (sideOf true) (sides .is-plan);
-      })
-
-  lower-plan : readingsPlan (sectionFor m) (underColumn q lower) book ≡ given (sideOf false (j .plan))
-  lower-plan =
-      let lot = sides .lot in
-      readings-plan-given (underColumn q lower) book (sectionFor m) (sideOf false (j .plan)) .1
-      (record {
-        book-sound = sides .book-sound;
-        lot = record { severity = lot .severity; size = lot .size; level = lot .level; column = sides .lower-column };
-        entry = sides .lower-entry;
-        under-key = sides .lower-under-key;
-        within-lot = omega (arith, sides .same-n, sides .within-lot);
-        is-plan =
-            ap (λ (n : ℕ). record { n = n; k = variablesOf (sides .lower-entry) .k }) (sym (sides .same-n))
-            ∙ ap (sideOf false) (sides .is-plan);
-      })
-
   pub upper-alone : judgeLimit m true q book u readings
       ≡ given (record { plan = sideOf true (j .plan); verdict = sideVerdict true u })
   unfolding judgeLimit
-  upper-alone = rw upper-plan (rw (side-judged true u (λ o. judged .limits-in (inl o))))
+  upper-alone = rw (plans .0) (rw (side-judged true u (λ o. judged .limits-in (inl o))))
 
   pub lower-alone : judgeLimit m false (underColumn q lower) book l readings
       ≡ given (record { plan = sideOf false (j .plan); verdict = sideVerdict false l })
   unfolding judgeLimit
-  lower-alone = rw lower-plan (rw (side-judged false l (λ o. judged .limits-in (inr (inl o)))))
+  lower-alone = rw (plans .1) (rw (side-judged false l (λ o. judged .limits-in (inr (inl o)))))
 
   pub both-accept : j .verdict .accepted ≡ (sideVerdict true u .accepted && sideVerdict false l .accepted)
   unfolding acceptsLimits
   both-accept =
       let iff = accepts-exactly m (both u l) (j .plan) (readingsOf readings) in
       same-truth _ _ (λ t. iff .1 (judged .accepted-exactly .0 t)) (λ t. judged .accepted-exactly .1 (iff .0 t))
+
+-- .. and back: two lots judged for one limit each, with the same n, are judged together, where the lower limit is below
+-- the upper.
+module _ (m : Spread) (q : Asked) (lower : ℕ) (book readings : List ℕ) (u l : ℤ) (a b : Judged VariablesPlan Verdict)
+    (above : judgeLimit m true q book u readings ≡ given a)
+    (below : judgeLimit m false (underColumn q lower) book l readings ≡ given b) (same : a .plan .n ≡ b .plan .n)
+    (apart : ltZ l u ≡ true) where
+  upper-judged : (readingsPlan (sectionFor m) q book ≡ given (a .plan))
+      × ReadingsJudged m (one true u) readings (sidesOf (a .plan)) (a .verdict)
+  upper-judged = judge-limit-given m q book readings true u a .0 above
+
+  lower-judged : (readingsPlan (sectionFor m) (underColumn q lower) book ≡ given (b .plan))
+      × ReadingsJudged m (one false l) readings (sidesOf (b .plan)) (b .verdict)
+  lower-judged = judge-limit-given m (underColumn q lower) book readings false l b .0 below
+
+  limits-inside : LimitsOut (both u l) → ⊥
+  limits-inside (inl e) = upper-judged .1 .limits-in e
+  limits-inside (inr (inl e)) = lower-judged .1 .limits-in e
+  limits-inside (inr (inr e)) = false≢true (sym (at-or-over l u e) ∙ apart)
+
+  both-accepted : ((a .verdict .accepted && b .verdict .accepted) ≡ true)
+      ↔ LimitsAccept m (both u l) (bothSides (a .plan) (b .plan)) (readingsOf readings)
+  both-accepted =
+      let iff = and-eq-true-iff (a .verdict .accepted) (b .verdict .accepted) in
+      let up = upper-judged .1 .accepted-exactly in
+      let low = lower-judged .1 .accepted-exactly in
+      let at : ℕ → Type 0 = λ n. SideAccepts m false n (b .plan .k) l (readingsOf readings) in (
+        λ t. (up .0 (iff .0 t .0), subst at (sym same) (low .0 (iff .0 t .1))),
+        λ s. iff .1 (up .1 (s .0), low .1 (subst at same (s .1))),
+      )
+
+  pub judged-together : judgeSides m (both u l) q lower book readings
+      ≡ given
+      (record {
+        plan = bothSides (a .plan) (b .plan);
+        verdict = readingsVerdict (a .plan .n) (a .verdict .accepted && b .verdict .accepted);
+      })
+  judged-together =
+      judge-sides-given m q book readings (both u l) lower _ .1 (
+        sides-join (sectionFor m) q lower book
+            ∙ join-given _ _ (bothSides (a .plan) (b .plan)) .1 (
+              upper-judged .0,
+              lower-judged .0 ∙ ap (λ (n : ℕ). given (record { n = n; k = b .plan .k })) (sym same),
+            ),
+        record {
+          whole = upper-judged .1 .whole;
+          readings-in = upper-judged .1 .readings-in;
+          limits-in = limits-inside;
+          sigma-in = upper-judged .1 .sigma-in;
+          accepted-exactly = both-accepted;
+          verdict = refl;
+        },
+      )

@@ -13,7 +13,7 @@ use Rattle.rules.specs.Writing.{leftOut}
 use Rattle.rules.proofs.Numbers.{numbers-low}
 use Rattle.rules.proofs.RowLaws.{rowed}
 use Rattle.rules.proofs.FewKeys.{few-right}
-use Rattle.writing.specs.Paper.{rowsOf, noFifth, Layable}
+use Rattle.writing.specs.Paper.{rowsOf, Layable}
 use Rattle.writing.proofs.Laying.{rows-count, still-layable, section-left, list-layable, section-laid}
 use borrow.Author.Needs.{needs}
 use Rattle.writing.proofs.lay_section.Statement.{statement}
@@ -36,9 +36,8 @@ module _ (d : tie.After-left-out) where
       let a = d .before .before .before .before in
       rows-count k (rowed kind (a .pre .0)) list (w .result) (w .ensures .0) (a .pre .1 .right)
 
-  told : {b : Bool} → d .left-out .result ≡ b → leftOut kind (rowsOf k list) ≡ b
-  unfolding leftOut
-  told e = ap (noFifth kind) (sym count) ∙ sym (d .left-out .ensures) ∙ e
+  told : {b : Bool} → d .left-out .result ≡ b → leftOut kind (length (rowsOf k list)) ≡ b
+  told e = ap (leftOut kind) (sym count) ∙ sym (d .left-out .ensures) ∙ e
 
 -- where it is not, there is room for its count and its entries
 module _ (e : tie.Else1) where

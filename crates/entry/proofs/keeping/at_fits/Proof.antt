@@ -7,7 +7,7 @@ use borrow.Author.Tests.{ltb-true, leb-true, lt-ltb, le-leb}
 use borrow.Author.Needs.{needs}
 use lib.Dec.{leb, ltb}
 use Rattle.rules.specs.Book.{atFits}
-use Rattle.rules.proofs.Diff.{bool-same}
+use Rattle.rules.proofs.Bools.{same-truth}
 use Rattle.rules.proofs.Steps.{square-fits}
 use Rattle.entry.proofs.keeping.at_fits.Statement.{statement}
 use Rattle.entry.proofs.keeping.at_fits.Tie as tie
@@ -16,12 +16,12 @@ use Rattle.entry.proofs.keeping.at_fits.Tie as tie
 module _ (gn h x : ℕ) where
   floor-below : ltb gn (100000 * x + 100 * h + 100000) ≡ leb ((gn - 100 * h) / 100000) x
   floor-below =
-      bool-same _ _ (λ e. le-leb _ x (omega (arith, ltb-true gn (100000 * x + 100 * h + 100000) e)))
+      same-truth _ _ (λ e. le-leb _ x (omega (arith, ltb-true gn (100000 * x + 100 * h + 100000) e)))
       (λ e. lt-ltb gn _ (omega (arith, leb-true ((gn - 100 * h) / 100000) x e)))
 
   below-ceiling : ltb (100000 * x) (gn + 100 * h) ≡ ltb x ((gn + 100 * h + 99999) / 100000)
   below-ceiling =
-      bool-same _ _ (λ e. lt-ltb x _ (omega (arith, ltb-true (100000 * x) (gn + 100 * h) e)))
+      same-truth _ _ (λ e. lt-ltb x _ (omega (arith, ltb-true (100000 * x) (gn + 100 * h) e)))
       (λ e. lt-ltb (100000 * x) (gn + 100 * h) (omega (arith, ltb-true x ((gn + 100 * h + 99999) / 100000) e)))
 
 mul-gn : tie.Need-mul-gn

@@ -2,19 +2,22 @@
 -- number of either.
 -- Assumes nothing.
 use Prim.Native.Nat.{ℕ, max}
-use mathlib.Core.Path.{_≡_, refl, sym}
-use mathlib.Core.Bool.{Bool, true, false, cond, _||_, not, false≢true}
+use mathlib.Core.Path.{_≡_, refl, sym, ap, _∙_}
+use mathlib.Core.Logic.{_↔_}
+use mathlib.Core.Bool.{Bool, true, false, cond, _||_, not}
 use mathlib.Core.List.{List}
+use native.Mathlib.Nat.{le-refl}
 use native.Mathlib.Omega.{arith}
-use borrow.Author.Tests.{ltb-true, ltb-false, lt-ltb, le-ltb, eqb-true}
+use borrow.Author.Tests.{ltb-true, ltb-false, lt-ltb, le-ltb, eqb-true, eq-eqb}
 use lib.Dec.{ltb, eqb}
-use Rattle.rules.specs.Refusals.{Answer, refused, given, firstOf, noPlan}
+use Rattle.rules.specs.Refusals.{Answer, refused, given, firstOf, andThen, noPlan}
 use Rattle.rules.specs.Variables.{VariablesPlan}
 use Rattle.rules.specs.Book.{Checked, sound, brokenAt, checkBook, onSound, Found, found, nothing, variablesOf}
 use Rattle.rules.specs.Entries.{Asked, askedChecks, lookedUp, fromEntry, unlessAbove, underColumn, fromSides}
-use Rattle.rules.specs.Entries.{readingsPlan, sidesPlan, lettered}
-use Rattle.rules.proofs.EntryLaws.{sound-given}
-use Rattle.choosing.specs.Paper.{SoundIf, unlettered, isGiven, joinSides}
+use Rattle.rules.specs.Entries.{bothSides, readingsPlan, sidesPlan}
+use Rattle.rules.specs.Limits.{SidesPlan, sidesOf, sideOf}
+use Rattle.rules.specs.Planning.{joinSides}
+use Rattle.rules.proofs.Answers.{refused-given, given-one}
 
 -- refused by 6, or given
 data AtMostSix (x : Answer VariablesPlan) : Type 0 where
@@ -37,7 +40,7 @@ module _ (q : Asked) where
   entries-join : (u l : VariablesPlan) (a b c : Bool) → ltb (q .size) (u .n) ≡ a → ltb (q .size) (l .n) ≡ b
       → eqb (u .n) (l .n) ≡ c
       → cond (not c) (refused noPlan 0)
-      (cond a (refused noPlan 0) (given (record { n = u .n; upperK = u .k; lowerK = l .k })))
+      (cond a (refused noPlan 0) (given (bothSides u l)))
       ≡ joinSides (cond a (refused noPlan 0) (given u)) (cond b (refused noPlan 0) (given l))
   entries-join u l true true true e f g = refl
   entries-join u l true true false e f g = refl
@@ -47,8 +50,8 @@ module _ (q : Asked) where
       let z : ⊥ = omega (arith, ltb-false (q .size) (u .n) e, ltb-true (q .size) (l .n) f, eqb-true (u .n) (l .n) g) in
       absurd z
   entries-join u l false true false e f g = refl
-  entries-join u l false false true e f g = rw g
-  entries-join u l false false false e f g = rw g
+  entries-join u l false false c e f g =
+      ap (λ (t : Bool). cond (not t) (refused noPlan 0) (given (bothSides u l))) (sym g)
 
   found-join : (f g : Found)
       → fromEntry f (λ e. fromEntry g (λ d. fromSides q (variablesOf e) (variablesOf d)))
@@ -118,14 +121,34 @@ sides-join section q lower book = on (checkBook book)
         (eqb (q .severity) 3) _ _ (at-most-six q (lookedUp section q book))
         (at-most-six q (lookedUp section (underColumn q lower) book)))
 
--- a plan without its letter
-pub unlettered-is : {P : Type 0} (q : Asked) (a : Answer P) → unlettered (lettered q a) ≡ a
-unlettered-is q (refused n p) = refl
-unlettered-is q (given x) = refl
+-- One column for both sides: its K stands on each.
+pub join-same : (a : Answer VariablesPlan) → joinSides a a ≡ andThen a (λ p. given (sidesOf p))
+join-same (refused n p) = rw (le-ltb n n (le-refl n))
+join-same (given p) = rw (eq-eqb (p .n) (p .n) refl)
 
--- only a sound book gives a plan
-pub given-sound : (section : ℕ) (q : Asked) (book : List ℕ) (a : Answer VariablesPlan) → a ≡ readingsPlan section q book
-    → SoundIf (isGiven a) book
-unfolding readingsPlan
-given-sound section q book (refused n p) e t = absurd (false≢true t)
-given-sound section q book (given x) e t = sound-given (checkBook book) _ x .0 (sym e) .0
+-- Both sides are given exactly where each is, with the same n.
+pub join-given : (a b : Answer VariablesPlan) (p : SidesPlan)
+    → (joinSides a b ≡ given p) ↔ ((a ≡ given (sideOf true p)) × (b ≡ given (sideOf false p)))
+join-given a b p = (so a b, λ e. rw (e .0, e .1, eq-eqb (p .n) (p .n) refl))
+  where
+    no-lower : (t : Bool) (n r m s : ℕ) → cond t (refused m s) (refused n r) ≡ given p → ⊥
+    no-lower true n r m s e = refused-given e
+    no-lower false n r m s e = refused-given e
+
+    together : (u l : VariablesPlan) (t : Bool) → eqb (u .n) (l .n) ≡ t
+        → cond (not t) (refused noPlan 0) (given (bothSides u l)) ≡ given p
+        → (given u ≡ given (sideOf true p)) × (given l ≡ given (sideOf false p))
+    together u l false t e = absurd (refused-given e)
+    together u l true t e =
+        let h : bothSides u l ≡ p = given-one e in (
+          ap (λ (z : SidesPlan). given (sideOf true z)) h,
+          ap (λ (n : ℕ). given (record { n = n; k = l .k })) (sym (eqb-true (u .n) (l .n) t))
+              ∙ ap (λ (z : SidesPlan). given (sideOf false z)) h,
+        )
+
+    so : (a b : Answer VariablesPlan) → joinSides a b ≡ given p
+        → (a ≡ given (sideOf true p)) × (b ≡ given (sideOf false p))
+    so (refused n r) (refused m s) e = absurd (no-lower (ltb m n) n r m s e)
+    so (refused n r) (given l) e = absurd (refused-given e)
+    so (given u) (refused m s) e = absurd (refused-given e)
+    so (given u) (given l) e = together u l (eqb (u .n) (l .n)) refl e
