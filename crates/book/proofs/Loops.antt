@@ -1,4 +1,4 @@
--- The two loops over a book, the one over the entries of a section and the one over the sections: a law for each step.
+-- The loop over the entries of a section, and the four sections that every book has: a law for each step.
 -- Assumes nothing.
 use Prim.Native.Nat.{ℕ, zero, suc, _+_, _-_, _*_, _≤_, _<_}
 use mathlib.Core.Path.{_≡_, refl, ap, sym, _∙_}
@@ -174,7 +174,7 @@ module _ (j : ℕ) (key : Kind → List ℕ) (ws : List ℕ) where
   unfolding placeUnder
   place-none h = rw (le-ltb j 5 h)
 
--- the loop over the sections
+-- the four sections, one after the other
 module _ {asked : ℕ} {key : Key} {ws : List ℕ} where
   pub book-opens : InBook asked key ws 0 0 0
   book-opens =

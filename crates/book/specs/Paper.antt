@@ -1,8 +1,10 @@
 -- What the code's enums are on paper, and what its loops keep. Definitions only.
 use Prim.Native.Nat.{ℕ, _+_, _-_, _*_, _≤_, _<_}
 use mathlib.Core.Path.{_≡_}
+use mathlib.Core.Bool.{Bool, _&&_}
 use mathlib.Core.List.{List}
-use lib.ListN.{length, take, drop}
+use lib.Dec.{ltb, eqb}
+use lib.ListN.{length, getD, take, drop}
 use Rattle.rules.specs.Refusals.{Answer, refused, given, brokenBook}
 use Rattle.rules.specs.Numbers.{numbersOf}
 use Rattle.rules.specs.Book.{Kind, always, kinds, kindAt, keyOf, shift, section, sections, allSections}
@@ -70,7 +72,7 @@ pub record InSection (k : Kind) (key ws : List ℕ) (n prev at seen i : ℕ) : T
   pub reads : section k ws ≡ shift at (paper.entries k (n - i) (keyBetween k prev at ws) (drop at ws))
   pub looks : sectionPlace k key ws ≡ orElse seen (underFrom k key (n - i) at ws)
 
--- The loop over the four sections, before the one of a kind, which starts at a place.
+-- Among the four sections, before the one of a kind, which starts at a place.
 pub record InBook (asked : ℕ) (key : Key) (ws : List ℕ) (kind at held : ℕ) : Type 0 where
   pub counted : kind ≤ length always
   pub within : at ≤ length ws
@@ -80,6 +82,19 @@ pub record InBook (asked : ℕ) (key : Key) (ws : List ℕ) (kind at held : ℕ)
       → sections (take asked kinds) ws ≡ shift at (sections (drop kind (take asked kinds)) (drop at ws))
   pub none : kind ≤ asked → held ≡ 0
   pub behind : asked < kind → held ≡ placeOf asked key ws
+
+-- only the fifth section can be missing; and it has at least one entry where it is there
+abbrev pub isAbsent : ℕ → List ℕ → Bool
+isAbsent kind bytes = eqb kind (length always) && eqb (length bytes) 0
+
+abbrev pub hasNone : ℕ → List ℕ → Bool
+hasNone kind ws = eqb kind (length always) && (ltb 0 (length ws) && eqb (getD ws 0 0) 0)
+
+-- The loop over all sections, before the one of a kind, which is one of the four or the fifth; or past the fifth.
+pub record InWhole (asked : ℕ) (key : Key) (bytes : List ℕ) (kind at held : ℕ) : Type 0 where
+  pub counted : kind ≤ length kinds
+  pub four : kind ≤ length always → InBook asked key (numbersOf bytes) kind at held
+  pub all : length always < kind → BookRead asked key bytes (stretch.Ends at held)
 
 -- The loop over the entries from place `at` on by their sizes alone, before the i-th.
 pub record AtEntry (k : Kind) (ws : List ℕ) (at nth place i : ℕ) : Type 0 where

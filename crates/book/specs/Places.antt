@@ -50,15 +50,15 @@ placeUnder j key ws =
 abbrev pub placeOf : ℕ → Key → List ℕ → ℕ
 placeOf j key ws = placeUnder j (λ k. keyPaper k key) ws
 
--- .. by counts and sizes alone, whether or not the book is sound
+-- .. if that is one of the four that every book has
+abbrev pub placeInFour : ℕ → Key → List ℕ → ℕ
+placeInFour j key ws = cond (ltb j (length always)) (placeOf j key ws) 0
+
+-- the same by counts and sizes alone, whether or not the book is sound
 unfoldable pub placeLaid : ℕ → (Kind → List ℕ) → List ℕ → ℕ
 placeLaid j key ws =
     cond (ltb j (length kinds))
     (onward (sectionAt kinds j ws) (sectionPlace (kindAt j) (key (kindAt j)) (sectionFrom j ws))) 0
-
--- .. if that is one of the four that every book has
-abbrev pub placeInFour : ℕ → Key → List ℕ → ℕ
-placeInFour j key ws = cond (ltb j (length always)) (placeOf j key ws) 0
 
 -- the place held, after a section of a kind that starts at a place
 abbrev pub heldPast : ℕ → ℕ → ℕ → ℕ → ℕ → ℕ

@@ -10,7 +10,7 @@ ghost use Rattle.rules.specs.Book.{kinds, kindAt, checkBook, onSound};
 ghost use Rattle.rules.specs.Layout.{entryAt, sectionAt};
 ghost use Rattle.entry.specs.Paper.{walkPaper, keyPaper};
 ghost use Rattle.book.specs.Places.{orElse, underAt, heldPast, sectionPlace, placeOf, placeHeld, laidPlace};
-ghost use Rattle.book.specs.Paper.{entryAfter, SectionRead, SectionsRead, SectionsEnd, BookRead};
+ghost use Rattle.book.specs.Paper.{entryAfter, SectionRead, isAbsent, hasNone, BookRead};
 ghost use Rattle.book.specs.Paper.{wholePaper, bookPaper, foundPaper};
 use entry::Key;
 use entry::Walk;
@@ -104,17 +104,46 @@ fn held_past(kind: usize, asked: usize, held: usize, at: usize, seen: usize) -> 
     at + seen
 }
 
-// The four sections that every book has, each as its own part of the book; what stands under the key in the one that is
-// asked for.
+// Does the book end before the section? Only the fifth can be missing.
+fn is_absent(kind: usize, part: &[u8]) -> bool
+    ensures { λ r. ⌜ r ≡ isAbsent kind (now (part .entry)) ⌝ }
+{
+    if kind == ALWAYS {
+        return part.len() == 0;
+    }
+    false
+}
+
+// Is it a fifth section with a count of 0?
+fn has_none(kind: usize, part: &[u8]) -> bool
+    ensures { λ r. ⌜ r ≡ hasNone kind (numbersOf (now (part .entry))) ⌝ }
+{
+    if kind != ALWAYS {
+        return false;
+    }
+    if numbers::count(part) == 0 {
+        return false;
+    }
+    numbers::number(part, 0) == 0
+}
+
+// The sections, each as its own part of the book; what stands under the key in the one that is asked for.
 fn check_sections(asked: usize, key: Key, book: &[u8]) -> Stretch
-    ensures { λ r. ⌜ SectionsRead asked key (numbersOf (now (book .entry))) r ⌝ }
+    ensures { λ r. ⌜ BookRead asked key (now (book .entry)) r ⌝ }
 {
     let mut at = 0;
     let mut held = 0;
     let mut kind = 0;
-    while kind < ALWAYS {
+    while kind < entry::KINDS {
         let from = 2 * at;
-        match check_section(kind, key, &book[from..]) {
+        let part = &book[from..];
+        if is_absent(kind, part) {
+            return Stretch::Ends(at, held);
+        }
+        if has_none(kind, part) {
+            return Stretch::Broken(at);
+        }
+        match check_section(kind, key, part) {
             Stretch::Ends(size, seen) => {
                 held = held_past(kind, asked, held, at, seen);
                 at += size;
@@ -129,43 +158,6 @@ fn check_sections(asked: usize, key: Key, book: &[u8]) -> Stretch
         }
     }
     Stretch::Ends(at, held)
-}
-
-// What follows the four sections, which end at a place: nothing, or the fifth section, with at least one entry.
-fn check_fifth(asked: usize, key: Key, book: &[u8], at: usize, held: usize) -> Stretch
-    requires { ⌜ SectionsEnd asked key (numbersOf (now book)) at held ⌝ }
-    ensures { λ r. ⌜ BookRead asked key (now (book .entry)) r ⌝ }
-{
-    let from = 2 * at;
-    if book.len() <= from {
-        return Stretch::Ends(at, held);
-    }
-    let part = &book[from..];
-    if numbers::count(part) == 0 {
-        return Stretch::Short;
-    }
-    if numbers::number(part, 0) == 0 {
-        return Stretch::Broken(at);
-    }
-    match check_section(entry::SIGMA, key, part) {
-        Stretch::Ends(size, seen) => {
-            let last = held_past(entry::SIGMA, asked, held, at, seen);
-            Stretch::Ends(at + size, last)
-        }
-        Stretch::Broken(p) => Stretch::Broken(at + p),
-        Stretch::Short => Stretch::Short,
-    }
-}
-
-// All sections of the book.
-fn check_all(asked: usize, key: Key, book: &[u8]) -> Stretch
-    ensures { λ r. ⌜ BookRead asked key (now (book .entry)) r ⌝ }
-{
-    match check_sections(asked, key, book) {
-        Stretch::Ends(at, held) => check_fifth(asked, key, book, at, held),
-        Stretch::Broken(p) => Stretch::Broken(p),
-        Stretch::Short => Stretch::Short,
-    }
 }
 
 // What one pass over the book finds: the byte at which it is broken, or that it is sound, with the place of the entry
@@ -183,7 +175,7 @@ fn check_whole(asked: usize, key: Key, book: &[u8]) -> Whole
     if LARGEST_BOOK < len {
         return Whole::Broken(LARGEST_BOOK);
     }
-    match check_all(asked, key, book) {
+    match check_sections(asked, key, book) {
         Stretch::Ends(p, held) => {
             let end = 2 * p;
             if end < len {

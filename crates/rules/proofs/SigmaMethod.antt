@@ -1,5 +1,6 @@
--- A known spread: no margin, or a negative one, never accepts, equality accepts, and the mean with k sigma on it is what is held
--- against the limit; what is seen from below is the mirror image of what is seen from above, by either method.
+-- A known spread: no margin, or a negative one, never accepts where K, sigma and n are 1 or more; equality accepts; and
+-- the mean with k sigma on it is what is held against the limit. What is seen from below is the mirror image of what is
+-- seen from above, by either method.
 -- Assumes nothing.
 use Prim.Native.Nat.{ℕ, suc, _+_, _*_, _≤_}
 use mathlib.Core.Path.{_≡_, refl, sym, _∙_}

@@ -31,37 +31,37 @@ returns c = by-broken _ _ _ (book-long (now (c .before .before .args .book)) (c 
 mul-end : tie.Need-mul-end
 mul-end c =
     let s = now (c .before .before .before .before .before .before .args .book) in
-    let q = ends-of (c .before .before .before .check-all .ensures) (c .before .p .given .1) .0 in
+    let q = ends-of (c .before .before .before .check-sections .ensures) (c .before .p .given .1) .0 in
     omega (arith, place-ends _ _ q, place-all (length s) (numbersOf s), numbers-low s)
 
 returns-2 : tie.Need-returns-2
 returns-2 c =
     let s = now (c .before .before .before .before .before .before .before .args .book) in
-    let q = ends-of (c .before .before .before .before .check-all .ensures) (c .before .before .p .given .1) .0 in
+    let q = ends-of (c .before .before .before .before .check-sections .ensures) (c .before .before .p .given .1) .0 in
     by-broken s _ _ (book-is s _ (omega arith) q ∙ after-end (length s) _ (c .if2 .taken))
 
 mul-t13 : tie.Need-mul-t13
 mul-t13 c =
     let s = now (c .before .before .before .before .before .before .args .book) in
-    let q = broken-of (c .before .before .before .check-all .ensures) (c .before .p2 .given .1) in
+    let q = broken-of (c .before .before .before .check-sections .ensures) (c .before .p2 .given .1) in
     omega (arith, place-broken _ _ q, place-all (length s) (numbersOf s), numbers-low s)
 
 returns-3 : tie.Need-returns-3
 returns-3 c =
     let s = now (c .before .before .before .before .before .before .before .args .book) in
-    let q = ends-of (c .before .before .before .before .check-all .ensures) (c .before .before .p .given .1) in
+    let q = ends-of (c .before .before .before .before .check-sections .ensures) (c .before .before .p .given .1) in
     by-sound s _ _ (book-is s _ (omega arith) (q .0) ∙ at-end (length s) _ (c .if2 .left)) (q .1)
 
 returns-4 : tie.Need-returns-4
 returns-4 c =
     let s = now (c .before .before .before .before .before .before .args .book) in
-    let q = broken-of (c .before .before .before .check-all .ensures) (c .before .p2 .given .1) in
+    let q = broken-of (c .before .before .before .check-sections .ensures) (c .before .p2 .given .1) in
     by-broken s _ _ (book-is s _ (omega arith) q ∙ at-broken (length s) _)
 
 returns-5 : tie.Need-returns-5
 returns-5 c =
     let s = now (c .before .before .before .before .before .args .book) in
-    let q = short-of (c .before .before .check-all .ensures) (c .enum-told .given .1) in
+    let q = short-of (c .before .before .check-sections .ensures) (c .enum-told .given .1) in
     by-broken s _ _ (book-is s _ (omega arith) q ∙ at-short (length s))
 
 pub check-whole-spec : {M : Type 1} → statement M
