@@ -55,7 +55,8 @@ within-requires-2 : tie.Need-within-requires-2
 within-requires-2 c κs =
     let o = c .before .before .before .before in
     let f = figures _ (o .pre .1) _ _ (c .before .before .side-k .ensures) (c .before .raised .ensures .1) in
-    (o .pre .0, f .0, f .1, f .2, o .pre .3, f .3, o .pre .3, o .pre .4)
+    let t = o .pre .3 in
+    (o .pre .0, f .0, f .1, f .2, omega (arith, t, f .3), omega (arith, t, f .3), t, o .pre .4)
 
 returns-2 : tie.Need-returns-2
 returns-2 c =
