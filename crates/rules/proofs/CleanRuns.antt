@@ -2,7 +2,7 @@
 -- the lots just before.
 -- Assumes nothing.
 use Prim.Native.Nat.{ℕ, zero, suc, ◌≤◌, min}
-use mathlib.Core.Path.{◌≡◌, refl, sym, ap, ◌∙◌}
+use mathlib.Core.Path.{◌≡◌, refl, sym, ap, subst, ◌∙◌}
 use mathlib.Core.Bool.{Bool, true, false, cond, ◌&&◌, false≢true}
 use mathlib.Core.List.{List, [], ◌∷◌}
 use mathlib.Core.Logic.{◌↔◌}
@@ -59,7 +59,13 @@ module _ (v letter column : ℕ) (fraction : has_fractional_plan v column letter
       go : (a : Bool) → eqb l letter ≡ a → (b : Bool) → eqb c column ≡ b
           → run_on (held_run v l c (unbroken l c (on_fraction l c total ∷ os))) letter column
           ≡ min 2 (unbroken letter column (on_fraction l c total ∷ os))
-      go true p true q = rw (eqb-true l letter p, eqb-true c column q) (same-plan _)
+      go true p true q =
+          let Goal : ℕ → ℕ → Type 0 =
+          λ x y. run_on (held_run v x y (unbroken x y (on_fraction x y total ∷ os))) letter column
+          ≡ min 2 (unbroken letter column (on_fraction x y total ∷ os)) in
+          subst (λ (x : ℕ). Goal x c) (sym (eqb-true l letter p))
+          (subst (λ (y : ℕ). Goal letter y) (sym (eqb-true c column q))
+          (same-plan (unbroken letter column (on_fraction letter column total ∷ os))))
       go true p false q = rw (other-plan l c (rw (p, q)) (unbroken l c (on_fraction l c total ∷ os)), p, q)
       go false p b q = rw (other-plan l c (rw p) (unbroken l c (on_fraction l c total ∷ os)), p)
 

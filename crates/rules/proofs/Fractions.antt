@@ -14,7 +14,7 @@ use Rattle.rules.specs.Refusals.{Answer, refused, given, ◌gives◌, first_of, 
 use Rattle.rules.specs.Codes.{normal, tightened, reduced}
 use Rattle.rules.specs.Verdict.{Verdict, Judged}
 use Rattle.rules.specs.Single.{number, Row, row_at, box_of, box_at, Plan, judge_items}
-use Rattle.rules.specs.Severity.{Lot, add_two, lot, counted}
+use Rattle.rules.specs.Severity.{Lot, add_two, counted}
 use Rattle.rules.specs.Fractional.{half, third, ◌holds◌, fractions, share_in, share_at, has_fractional_plan}
 use Rattle.rules.specs.Fractional.{FractionalPlan, plan_of_share, fraction_accepts, fraction_verdict, verdict_by_share}
 use Rattle.rules.specs.Fractional.{judge_by_share}

@@ -2,7 +2,7 @@
 -- in range and keeping its rules; and every entry under the key is found. Proved once over the kinds of section.
 -- Assumes nothing.
 use Prim.Native.Nat.{ℕ, zero, suc, ◌+◌, ◌*◌, ◌≤◌, ◌<◌}
-use mathlib.Core.Path.{◌≡◌, refl, ap, sym, ◌∙◌}
+use mathlib.Core.Path.{◌≡◌, refl, ap, sym, subst, ◌∙◌}
 use mathlib.Core.Bool.{Bool, true, false, cond, ◌&&◌, true≢false}
 use mathlib.Core.List.{List, [], ◌∷◌}
 use native.Mathlib.Omega.{arith}
@@ -295,8 +295,13 @@ seek-finds k deep (suc n) before ws p e (suc i) l =
     rising k deep n (key_of k ws) after d.second rest i (omega arith) in
     let other : same_key (key_of k ws) (key_of k (drop (entry_at k i after) after)) ≡ false =
     not-same (key_of k ws) (key_of k (drop (entry_at k i after) after)) up in
-    rw (← drop-drop (entry_at k i after) (size_of k ws) ws, other)
-    (seek-finds k deep n (key_of k ws) after d.second rest i (omega arith))
+    let further : drop (entry_at k (suc i) ws) ws ≡ drop (entry_at k i after) after =
+    sym (drop-drop (entry_at k i after) (size_of k ws) ws) in
+    let Goal : List ℕ → Type 0 =
+    λ d. cond (same_key (key_of k ws) (key_of k d)) (found (entry_of k ws)) (seek k (key_of k d) n after)
+    ≡ found (entry_of k d) in
+    subst Goal (sym further)
+    (rw other (seek-finds k deep n (key_of k ws) after d.second rest i (omega arith)))
 
 -- and what is found is an entry under the key
 record Sought (k : Kind) (key : List ℕ) (n : ℕ) (ws e : List ℕ) : Type 0 where

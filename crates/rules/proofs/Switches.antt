@@ -233,8 +233,11 @@ module _ (o : Origin) (l : Lot) (ls : List Lot) (few : Few ls) where
 no-lot-leaves : (e : Event) (ls : List Lot) → ((P : Lot → List Lot → Type 0) → ByLot P e ls → ⊥)
     → LeavesTightened e ls tightened
 no-lot-leaves e ls none = record {
-  to-normal = (λ q. absurd (omega arith), λ h. absurd (none _ h));
-  to-stopped = (λ q. absurd (omega arith), λ h. absurd (none _ h));
+  to-normal = (λ q. absurd (omega arith), λ h. absurd (none (λ l lots. LastAccepted 5 lots) h));
+  to-stopped = (
+    λ q. absurd (omega arith),
+    λ h. absurd (none (λ l lots. (accepted l ≡ false) × (not_accepted_in lots ≡ 5)) h),
+  );
   else-stays = λ f g. refl;
 }
 

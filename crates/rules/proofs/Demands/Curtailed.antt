@@ -16,7 +16,7 @@ use Rattle.rules.specs.Numbers.{numbers_of, sum_of}
 use Rattle.rules.specs.Verdict.{Verdict, Judged}
 use Rattle.rules.specs.Single.{Plan, single_verdict}
 use Rattle.rules.specs.Curtailed.{judge_until_lost}
-use Rattle.rules.specs.Severity.{sampled, lot}
+use Rattle.rules.specs.Severity.{sampled}
 use Rattle.rules.specs.Supply.{Supply, no_run, move, supply_in_range}
 use Rattle.rules.specs.Book.{sound, check_book}
 use Rattle.rules.specs.Entries.{Asked, single_plan, plain_plan, curtailed_plan, single_sample, curtailed_sample}

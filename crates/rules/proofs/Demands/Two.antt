@@ -29,7 +29,7 @@ use Rattle.rules.specs.Entries.{sequential_plan, readings_plan, variables_plan, 
 use Rattle.rules.specs.Entries.{judge_sequential, total_on, judge_total, next, Closed, Offered, asked_on}
 use Rattle.rules.specs.Entries.{single_counts, staged_counts, single_event, staged_event, close_single, close_staged}
 use Rattle.rules.specs.Entries.{close_total, moved}
-use Rattle.rules.specs.Severity.{sampled, Event, lot, Record, fresh}
+use Rattle.rules.specs.Severity.{sampled, Event, Record, fresh}
 use Rattle.rules.specs.Supply.{Supply, counts_on, supply_in_range}
 use Rattle.rules.specs.Variables.{VariablesPlan, all_in_gauge, readings_of, sum_z, squares_z}
 use Rattle.rules.specs.History.{Work, event_in, after_history, listed, left_in}
