@@ -1,3 +1,5 @@
+#![tactic(auto)]
+
 // What a line of the input says: its letter, and the numbers after it.
 ghost use Rattle.std.specs.Prelude.{◌≡◌};
 ghost use Rattle.lotforms.specs.Reading.{Digits, field_from, lot_from, order_from, line_paper, form_of};

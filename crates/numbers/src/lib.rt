@@ -1,3 +1,5 @@
+#![tactic(auto)]
+
 // The 16-bit little-endian numbers of lent bytes. Every read is total: where there is no number it is read as 0.
 ghost use Rattle.std.specs.Prelude.{◌≡◌, ◌+◌, ◌*◌, ◌<◌, length, get_or, pos, ◌+ℤ◌};
 ghost use Rattle.rules.specs.Numbers.{numbers_of, signed_of};

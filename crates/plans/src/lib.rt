@@ -1,3 +1,5 @@
+#![tactic(auto)]
+
 // Single plans of document 01: the letter of Table 1, where it lands in a master table, Ac there, the cut to the lot;
 // and the types of a lot that is asked about, its plan and its verdict.
 ghost use Rattle.std.specs.Prelude.{◌≡◌, ◌-◌, ◌<◌, get_or};
@@ -84,7 +86,7 @@ const AC_ZERO: u32 = 14;
 const AC_ONE: u32 = 17;
 
 // The lot that is asked about, under a severity.
-#[derive(Drop)]
+#[derive(Clone, Copy)]
 pub struct Asked {
     pub severity: u32,
     pub size: u32,

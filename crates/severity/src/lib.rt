@@ -1,3 +1,5 @@
+#![tactic(auto)]
+
 // The severity record of one supply, and what each event makes of it, by itself or in a history.
 ghost use Rattle.std.specs.Prelude.{◌≡◌, ◌&&◌, ◌+◌, ◌≤◌, min, eqb};
 ghost use Rattle.rules.specs.Severity.{accepted, started, fresh, due, settled, score_after, window_after, lot_normal};
@@ -34,7 +36,7 @@ pub struct Work {
 
 // The window is five bits, the newest lot in the lowest, 1 for a lot not accepted. No two of score, run, count and
 // window stand side by side: the compiler would keep them as one wide number, and take it apart at every step.
-#[derive(Drop)]
+#[derive(Clone, Copy)]
 pub struct Record {
     pub score: u8,
     pub severity: u8,

@@ -3,13 +3,9 @@ use mathlib.Core.Path.{ap}
 use borrow.Author.Rules.{rules}
 use Rattle.rules.specs.Refusals.{refused}
 use Rattle.rules.specs.Fractional.{FractionalPlan}
-use Rattle.plans.proofs.fractional_unplanned.Statement.{statement}
-use Rattle.plans.proofs.fractional_unplanned.Tie as tie
+use Rattle.plans.proofs.fractional_unplanned.Goals as goal
 
-returns : tie.Need-returns
+pub returns : goal.returns
 returns c =
-    let a = c.before.args in
+    let a = c.args in
     ap (λ (p : FractionalPlan). record { answer = refused a.number a.place; plan = p }) c.no_fraction.ensures
-
-pub fractional-unplanned-spec : {M : Type 1} → statement M
-fractional-unplanned-spec = tie.close (tie.spec (λ c κs. search rules) returns)

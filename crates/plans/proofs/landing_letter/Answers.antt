@@ -1,0 +1,47 @@
+-- `plans::landing_letter` meets its contract: each return is the landing by the tests before it. Assumes nothing.
+use Prim.Native.Nat.{ℕ, ◌+◌, ◌-◌}
+use mathlib.Core.Path.{ap, ◌∙◌}
+use borrow.Author.Rules.{rules}
+use native.Mathlib.Omega.{arith}
+use Rattle.rules.proofs.Landing.{zero-there, last-by-column, to-zero, to-one, to-last, stays}
+use Rattle.plans.proofs.landing_letter.Goals as goal
+
+pub overflow_sub-result : goal.overflow_sub-result
+overflow_sub-result c =
+    let a = c.args in
+    zero-there (14 + a.severity) a.column (a.letter + a.column) (omega arith) (omega arith)
+    (omega (arith, c.last_to_zero.ensures, c.if-s-last_to_zero.true))
+
+pub returns-then-s-last_to_zero : goal.returns-then-s-last_to_zero
+returns-then-s-last_to_zero c =
+    let a = c.args in
+    to-zero a.severity a.column a.letter (omega arith) (omega arith) (omega arith)
+    (omega (arith, c.last_to_zero.ensures, c.if-s-last_to_zero.true))
+
+pub returns-then-s-one_at : goal.returns-then-s-one_at
+returns-then-s-one_at c =
+    let a = c.args in
+    to-one a.severity a.column a.letter (omega arith) (omega arith) (omega arith)
+    (omega (arith, c.last_to_zero.ensures, c.if-s-last_to_zero.false)) (omega (arith, c.if-s-one_at.true))
+
+pub overflow_sub-result-then-last_at-s : goal.overflow_sub-result-then-last_at-s
+overflow_sub-result-then-last_at-s c =
+    let a = c.args in
+    let e = c.last_number-last_at.ensures in
+    last-by-column a.column (λ p f. omega (arith, e)) (λ p f. omega (arith, e)) (λ p f. omega (arith, e))
+
+pub returns-then-last_at-s : goal.returns-then-last_at-s
+returns-then-last_at-s c =
+    let a = c.args in
+    let e = c.last_number-last_at.ensures in
+    ap (λ (x : ℕ). x - a.column) e
+    ∙ to-last a.severity a.column a.letter (omega arith) (omega arith) (omega arith)
+    (omega (arith, c.last_to_zero.ensures, c.if-s-last_to_zero.false))
+    (omega (arith, c.if-s-one_at.false)) (omega (arith, e, c.if-last_at-s.true))
+
+pub returns : goal.returns
+returns c =
+    let a = c.args in
+    stays a.severity a.column a.letter (omega arith) (omega arith) (omega arith)
+    (omega (arith, c.last_to_zero.ensures, c.if-s-last_to_zero.false))
+    (omega (arith, c.if-s-one_at.false)) (omega (arith, c.last_number-last_at.ensures, c.if-last_at-s.false))
