@@ -28,7 +28,7 @@ const NOT_STOPPED: u8 = 10;
 
 // The work that a supply's history belongs to: the permission that its start names, and whether it knows resubmitted
 // lots.
-#[derive(Drop)]
+#[derive(Clone, Copy)]
 pub struct Work {
     pub permission: bool,
     pub resubmission: bool,
@@ -48,7 +48,7 @@ pub struct Record {
 }
 
 // How an original lot counts.
-#[derive(Drop)]
+#[derive(Clone, Copy)]
 pub enum Lot {
     AddThree,
     AddTwo,
@@ -58,14 +58,14 @@ pub enum Lot {
 
 // How an original lot entered: typed as a history byte; closed from its plan and sample; or so on a fractional plan,
 // by its letter, its column and its total, which a closing holds at 2.
-#[derive(Drop)]
+#[derive(Clone, Copy)]
 pub enum Origin {
     Typed,
     Sampled,
     Fraction(u8, u8, u8),
 }
 
-#[derive(Drop)]
+#[derive(Clone, Copy)]
 pub enum Event {
     Lot(Origin, Lot),
     Resubmitted,

@@ -1,6 +1,5 @@
 -- `lotforms::lot_line` meets its contract. Assumes nothing.
 use Rattle.lotforms.proofs.Reading.{first-other, then-known, too-many, as-many}
-use borrow.Author.Rules.{rules}
 use Rattle.lotforms.proofs.lot_line.Goals as goal
 
 pub returns-in_default : goal.returns-in_default

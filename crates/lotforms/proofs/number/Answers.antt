@@ -1,9 +1,6 @@
 -- `lotforms::number` meets its contract. Assumes nothing.
-use Prim.Native.Nat.{◌-◌}
-use lib.ListN.{length}
-use native.Mathlib.Omega.{arith}
 use borrow.Author.Rules.{rules}
-use Rattle.lotforms.proofs.Reading.{Reads, reads-first, reads-space, reads-end, reads-low, reads-high}
+use Rattle.lotforms.proofs.Reading.{reads-first, reads-space, reads-end, reads-low, reads-high}
 use Rattle.lotforms.proofs.Reading.{reads-over, reads-more}
 use Rattle.lotforms.proofs.number.Goals as goal
 

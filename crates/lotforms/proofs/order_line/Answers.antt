@@ -1,6 +1,5 @@
 -- `lotforms::order_line` meets its contract. Assumes nothing.
 use Rattle.lotforms.proofs.Reading.{first-other, then-known, too-many, one-yes, one-no, one-neither}
-use borrow.Author.Rules.{rules}
 use Rattle.lotforms.proofs.order_line.Goals as goal
 
 pub returns-in_default : goal.returns-in_default

@@ -1,7 +1,6 @@
 -- `numbers::raised_reading` meets its contract.
 -- Assumes nothing.
 use native.Mathlib.Omega.{arith}
-use borrow.Author.Rules.{rules}
 use Rattle.rules.proofs.Numbers.{raised-low, raised-high}
 use Rattle.numbers.proofs.raised_reading.Goals as goal
 

@@ -1,6 +1,5 @@
 -- `plans::ac_at` meets its contract: no number past the last of the column, else that along s. Assumes nothing.
 use mathlib.Core.Path.{◌∙◌}
-use borrow.Author.Rules.{rules}
 use native.Mathlib.Omega.{arith}
 use Rattle.plans.proofs.Master.{ac-there, ac-past}
 use Rattle.plans.proofs.ac_at.Goals as goal

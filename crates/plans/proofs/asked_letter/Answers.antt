@@ -1,7 +1,6 @@
 -- `plans::asked_letter` meets its contract: a lot's refusals are those of its letter, its column, and stopped.
 -- Assumes nothing.
 use mathlib.Core.Path.{◌≡◌, ap, sym, ◌∙◌}
-use borrow.Author.Rules.{rules}
 use borrow.Author.Tests.{lt-ltb, le-ltb, eq-eqb, ne_eqb}
 use Rattle.rules.specs.Refusals.{given, first_of}
 use Rattle.rules.specs.Entries.{Asked, asked_letter}

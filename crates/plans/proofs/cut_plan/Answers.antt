@@ -1,6 +1,5 @@
 -- `plans::cut_plan` meets its contract. Assumes nothing.
 use native.Mathlib.Omega.{arith}
-use borrow.Author.Rules.{rules}
 use borrow.Author.Tests.{le-leb, lt-leb}
 use Rattle.plans.proofs.cut_plan.Goals as goal
 

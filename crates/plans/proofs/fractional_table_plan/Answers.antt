@@ -2,7 +2,6 @@
 -- reduced, and any other takes the plan of its own box.
 -- Assumes nothing.
 use mathlib.Core.Path.{◌≡◌, ap, sym, ◌∙◌}
-use borrow.Author.Rules.{rules}
 use native.Mathlib.Omega.{arith}
 use Rattle.rules.specs.Refusals.{Answer, given, and_then}
 use Rattle.rules.specs.Single.{Plan}

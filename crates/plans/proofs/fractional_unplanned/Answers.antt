@@ -1,6 +1,5 @@
 -- `plans::fractional_unplanned` meets its contract. Assumes nothing.
 use mathlib.Core.Path.{ap}
-use borrow.Author.Rules.{rules}
 use Rattle.rules.specs.Refusals.{refused}
 use Rattle.rules.specs.Fractional.{FractionalPlan}
 use Rattle.plans.proofs.fractional_unplanned.Goals as goal

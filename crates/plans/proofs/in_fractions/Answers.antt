@@ -1,5 +1,4 @@
 -- `plans::in_fractions` meets its contract. Assumes nothing.
-use borrow.Author.Rules.{rules}
 use Rattle.plans.proofs.Shares.{mode-whole, mode-none, mode-own}
 use Rattle.plans.proofs.in_fractions.Goals as goal
 

@@ -1,7 +1,6 @@
 -- `plans::landing_letter` meets its contract: each return is the landing by the tests before it. Assumes nothing.
 use Prim.Native.Nat.{ℕ, ◌+◌, ◌-◌}
 use mathlib.Core.Path.{ap, ◌∙◌}
-use borrow.Author.Rules.{rules}
 use native.Mathlib.Omega.{arith}
 use Rattle.rules.proofs.Landing.{zero-there, last-by-column, to-zero, to-one, to-last, stays}
 use Rattle.plans.proofs.landing_letter.Goals as goal

@@ -1,5 +1,4 @@
 -- `plans::last_to_zero` meets its contract. Assumes nothing.
-use borrow.Author.Rules.{rules}
 use native.Mathlib.Omega.{arith}
 use borrow.Author.Tests.{le-leb, lt-leb}
 use Rattle.plans.proofs.last_to_zero.Goals as goal

@@ -1,6 +1,5 @@
 -- `plans::letter` meets its contract: the code's letters are those of Table 1. Assumes nothing.
 use mathlib.Core.Path.{ap, ◌∙◌}
-use borrow.Author.Rules.{rules}
 use borrow.Author.Tests.{lt-ltb, le-ltb}
 use native.Mathlib.Omega.{arith}
 use Rattle.rules.specs.Refusals.{given}

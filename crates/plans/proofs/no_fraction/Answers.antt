@@ -2,7 +2,6 @@
 use mathlib.Core.Path.{ap}
 use Rattle.rules.specs.Single.{Plan}
 use Rattle.rules.specs.Fractional.{plan_of_share}
-use borrow.Author.Rules.{rules}
 use Rattle.plans.proofs.no_fraction.Goals as goal
 
 pub returns : goal.returns

@@ -1,5 +1,4 @@
 -- `plans::own_plan` meets its contract. Assumes nothing.
-use borrow.Author.Rules.{rules}
 use Rattle.plans.proofs.own_plan.Goals as goal
 
 pub returns : goal.returns

@@ -1,6 +1,5 @@
 -- `plans::plan_from` meets its contract: the size and the Ac are those of the letter where the lot's letter lands.
 -- Assumes nothing.
-use borrow.Author.Rules.{rules}
 use native.Mathlib.Omega.{arith}
 use Rattle.plans.proofs.Master.{plan-there}
 use Rattle.plans.proofs.plan_from.Goals as goal

@@ -1,5 +1,4 @@
 -- `plans::share_at` meets its contract. Assumes nothing.
-use borrow.Author.Rules.{rules}
 use Rattle.plans.proofs.Shares.{third-normal, half-normal, none-normal, third-tightened, half-tightened}
 use Rattle.plans.proofs.Shares.{none-tightened, none-else}
 use Rattle.plans.proofs.share_at.Goals as goal

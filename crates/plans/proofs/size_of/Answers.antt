@@ -1,7 +1,6 @@
 -- `plans::size_of` meets its contract. Assumes nothing.
 use mathlib.Core.Path.{sym}
 use lib.ListN.{get_or-eq_default}
-use borrow.Author.Rules.{rules}
 use Rattle.rules.specs.Single.{sizes}
 use Rattle.plans.proofs.size_of.Goals as goal
 

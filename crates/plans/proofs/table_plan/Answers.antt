@@ -2,7 +2,6 @@
 -- and any other takes the tables' plan.
 -- Assumes nothing.
 use mathlib.Core.Path.{◌≡◌, ap, sym, ◌∙◌}
-use borrow.Author.Rules.{rules}
 use native.Mathlib.Omega.{arith}
 use Rattle.rules.specs.Refusals.{Answer, given}
 use Rattle.rules.specs.Single.{Plan}

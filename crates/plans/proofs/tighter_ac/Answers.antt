@@ -1,7 +1,6 @@
 -- `plans::tighter_ac` meets its contract: the box that is read stands one column to the left. Assumes nothing.
 use mathlib.Core.Path.{ap, ◌∙◌}
 use Prim.Native.Nat.{ℕ}
-use borrow.Author.Rules.{rules}
 use Rattle.rules.specs.Codes.{normal}
 use Rattle.rules.specs.Single.{ac_of, box_at, tighter_ac}
 use Rattle.plans.proofs.tighter_ac.Goals as goal

@@ -1,6 +1,5 @@
 -- `plans::unplanned` meets its contract. Assumes nothing.
 use mathlib.Core.Path.{ap}
-use borrow.Author.Rules.{rules}
 use Rattle.rules.specs.Refusals.{refused}
 use Rattle.rules.specs.Single.{Plan}
 use Rattle.plans.proofs.unplanned.Goals as goal

@@ -1,0 +1,1 @@
+-- `severity::fresh` meets its contract. Assumes nothing.
