@@ -3,8 +3,9 @@
  * or without; staged; sequential) and by variables (s method, or sigma method where the spread is known; one limit or
  * two), with the severity record of a supply and the severities of its history.
  *
- * THE ARCHIVE. `rt staticlib terminal` writes libterminal.a, for Linux on x86-64. On an Arm machine, link with a cross
- * compiler (x86_64-linux-gnu-gcc -static) and run the program under the kit's emulator, qemu-x86_64.
+ * THE ARCHIVE. `rt lib`, in the folder crates/terminal, writes out/libterminal.a there, for Linux on x86-64 (x86-64-v2).
+ * On an Arm machine, link with a cross compiler (x86_64-linux-gnu-gcc -static) and run the program under an emulator
+ * (qemu-x86_64 -cpu max).
  *
  * STATUS. Every function returns a uint32_t: 0 (HM_ANSWERED) when it answered; else the number of its refusal in the
  * low byte (HM_NUMBER) and the refusal's place in the 24 bits above (HM_PLACE). hm_list alone returns a uint64_t, with

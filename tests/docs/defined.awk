@@ -9,6 +9,7 @@ function parameters(text, rattle,    parts, n, i, list, word) {
   sub(/^[^(]*\(/, "", text)
   sub(/\)[^)]*$/, "", text)
   gsub(/\[[^]]*\]/, "", text)
+  while (sub(/<[^<>]*>/, "", text)) { }
   n = split(text, parts, ",")
   for (i = 1; i <= n; i++) {
     word = parts[i]
@@ -48,12 +49,11 @@ antt {
   if (at == 0 && line ~ / :$/) at = length(line) - 1
   if (at == 0) next
   line = substr(line, 1, at - 1)
+  # the place of an argument
+  gsub(/\342\227\214/, " ", line)
   if (line ~ /[^A-Za-z0-9_ '-]/) next
   n = split(line, words, " ")
-  for (i = 1; i <= n; i++) {
-    tell(words[i])
-    if (words[i] ~ /^_.*_$/) tell(substr(words[i], 2, length(words[i]) - 2))
-  }
+  for (i = 1; i <= n; i++) tell(words[i])
   next
 }
 
@@ -84,11 +84,19 @@ rattle {
     if (text ~ /\)/) signature(text, 1); else held = text
     next
   }
-  if (match(line, /(struct|enum|const|mod) +[A-Za-z_0-9]+/)) {
+  if (match(line, /(struct|enum|trait|const|mod) +[A-Za-z_0-9]+/)) {
     name = substr(line, RSTART, RLENGTH)
     sub(/^[a-z]+ +/, "", name)
     tell(name)
     variants = line ~ /enum/ && line !~ /\}/
+    next
+  }
+  # a clause's own name
+  if (match(line, /(requires|ensures)\*? +[a-z_0-9]+ *\{/)) {
+    name = substr(line, RSTART, RLENGTH)
+    sub(/^[a-z]+\*? +/, "", name)
+    sub(/ *\{$/, "", name)
+    tell(name)
     next
   }
   if (line ~ /^}/) variants = 0
