@@ -1,3 +1,5 @@
+#![tactic(auto)]
+
 // One entry of a plan book, of each of the five kinds: its key, its numbers, and the plan that it holds.
 ghost use Rattle.std.specs.Prelude.{◌≡◌, ◌≤◌, ◌<◌, length};
 ghost use Rattle.rules.specs.Numbers.{numbers_of};

@@ -1,3 +1,5 @@
+#![tactic(auto)]
+
 // The lines of the output, each put into a lent array.
 ghost use Rattle.std.specs.Prelude.{◌≡◌, [], ◌∷◌, ◌+◌, ◌<◌, ◌≤◌, length};
 ghost use Rattle.rules.specs.Log.{decimal, refused_line, header, size_text, order_printed, lot_printed};

@@ -95,7 +95,7 @@ pub struct Asked {
 }
 
 // The letter that gives the size, the items to draw, Ac; the table's own size, and whether it was cut to the lot.
-#[derive(Drop)]
+#[derive(Clone, Copy)]
 pub struct SinglePlan {
     pub letter: u8,
     pub n: u16,
@@ -105,7 +105,7 @@ pub struct SinglePlan {
 }
 
 // A single plan in the mode of fractions: where the share is not 0, Ac is.
-#[derive(Drop)]
+#[derive(Clone, Copy)]
 pub struct FractionalPlan {
     pub plan: SinglePlan,
     pub share: u8,

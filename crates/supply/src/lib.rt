@@ -1,3 +1,5 @@
+#![tactic(auto)]
+
 // The record of a supply, beside its clean run on a fractional plan, and what each event makes of both.
 ghost use Rattle.std.specs.Prelude.{◌≡◌};
 ghost use Rattle.rules.specs.Fractional.{share_at, has_fractional_plan, fraction_accepts};
@@ -17,14 +19,14 @@ const LAST_LETTER: u8 = 15;
 const LAST_OF_ITEMS: u8 = 15;
 
 // How many of the newest original lots of this stay were clean on one fractional plan, held at 2, and that plan.
-#[derive(Drop)]
+#[derive(Clone, Copy)]
 pub struct CleanRun {
     pub run: u8,
     pub letter: u8,
     pub column: u8,
 }
 
-#[derive(Drop)]
+#[derive(Clone, Copy)]
 pub struct Supply {
     pub switching: Record,
     pub clean: CleanRun,

@@ -1,0 +1,25 @@
+-- `entry::keeping::sequential_rule` meets its contract.
+-- Assumes nothing.
+use mathlib.Core.Path.{sym, ◌∙◌}
+use Rattle.rules.specs.Numbers.{numbers_of}
+use Rattle.rules.proofs.Steps.{sequential-at, sequential-free}
+use Rattle.entry.proofs.keeping.sequential_rule.Goals as goal
+
+pub returns-then-i-eq7 : goal.returns-then-i-eq7
+returns-then-i-eq7 c =
+    let a = c in
+    let e = numbers_of a.args.e.now in
+    let q = c.if-i-eq7.true in
+    c.at_fits.ensures
+    ∙ (rw (
+      c.number16-ha.ensures,
+      c.number16-hr.ensures,
+      c.number16-g.ensures,
+      c.number16-nt.ensures,
+    ))
+    ∙ sym (sequential-at e a.args.i a.args.x a.requires q)
+
+pub returns : goal.returns
+returns c =
+    let a = c in
+    sym (sequential-free (numbers_of a.args.e.now) a.args.i _ a.requires c.if-i-eq7.false)

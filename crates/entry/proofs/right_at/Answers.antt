@@ -1,0 +1,32 @@
+-- `entry::right_at` meets its contract.
+-- Assumes nothing.
+use mathlib.Core.Path.{◌≡◌, sym, ap, ◌∙◌}
+use mathlib.Core.Bool.{true, false}
+use lib.ListN.{get_or, take}
+use Rattle.rules.specs.Numbers.{numbers_of}
+use Rattle.rules.specs.Book.{kind_at, within, anything}
+use Rattle.rules.proofs.Steps.{right-by, wrong-by}
+use Rattle.entry.proofs.right_at.Goals as goal
+
+pub returns-then-fits : goal.returns-then-fits
+returns-then-fits c =
+    let a = c in
+    let k = kind_at a.args.kind in
+    let e = numbers_of a.args.e.now in
+    let i = a.args.i in
+    let x = c.number16-x.ensures in
+    let w : within (get_or k.ranges i anything) (get_or e i 0) ≡ true =
+    ap (within (get_or k.ranges i anything)) (sym x) ∙ sym c.fits.ensures
+    ∙ c.if-fits.true in
+    c.keeps_rule.ensures ∙ ap (k.rule (take i e)) x ∙ sym (right-by k e i w)
+
+pub returns : goal.returns
+returns c =
+    let a = c in
+    let k = kind_at a.args.kind in
+    let e = numbers_of a.args.e.now in
+    let i = a.args.i in
+    let x = c.number16-x.ensures in
+    let w : within (get_or k.ranges i anything) (get_or e i 0) ≡ false =
+    ap (within (get_or k.ranges i anything)) (sym x) ∙ sym c.fits.ensures ∙ c.if-fits.false in
+    sym (wrong-by k e i w)

@@ -1,0 +1,18 @@
+-- `entry::sequential_at` meets its contract.
+-- Assumes nothing.
+use mathlib.Core.Path.{◌∙◌}
+use native.Mathlib.Omega.{arith}
+use Rattle.rules.specs.Numbers.{numbers_of}
+use Rattle.entry.proofs.Seven.{number-taken}
+use Rattle.entry.proofs.sequential_at.Goals as goal
+
+pub returns : goal.returns
+returns c =
+    let ws = numbers_of c.args.e.now in
+    rw (
+      c.number16.ensures ∙ number-taken ws 8 3 (omega arith),
+      c.number16-2.ensures ∙ number-taken ws 8 4 (omega arith),
+      c.number16-3.ensures ∙ number-taken ws 8 5 (omega arith),
+      c.number16-4.ensures ∙ number-taken ws 8 6 (omega arith),
+      c.number16-5.ensures ∙ number-taken ws 8 7 (omega arith),
+    )
