@@ -1,3 +1,5 @@
+#![tactic(auto)]
+
 // The plan book of document 01, with document 02's fifth section. Each section is checked as its own stretch of the
 // book, and the entry under a key is found on the way.
 ghost use Rattle.std.specs.Prelude.{◌≡◌, cond, ◌+◌, ◌*◌, ◌≤◌, ◌<◌, length, drop};

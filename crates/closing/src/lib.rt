@@ -1,3 +1,5 @@
+#![tactic(auto)]
+
 // How a lot closes: how its verdict counts, the event that it stands for and the record after; and a lot that is closed
 // by its total, at a bench without a book.
 ghost use Rattle.std.specs.Prelude.{◌≡◌, ◌&&◌, ltb};
@@ -19,7 +21,7 @@ use severity::{Event, Lot, Origin};
 use supply::{Moved, Supply};
 
 // A lot that is offered to be closed.
-#[derive(Drop)]
+#[derive(Clone, Copy)]
 pub struct Offered {
     pub again: bool,
     pub size: u32,
@@ -28,28 +30,28 @@ pub struct Offered {
 }
 
 // How a closed lot was judged, the event that it stands for, and the record after.
-#[derive(Drop)]
+#[derive(Clone, Copy)]
 pub struct Closed {
     pub verdict: Verdict,
     pub event: Event,
     pub supply_after: Supply,
 }
 
-#[derive(Drop)]
+#[derive(Clone, Copy)]
 pub enum ClosedAnswer {
     Refused(u8, usize),
     Given(Closed),
 }
 
 // The verdict on a single plan, with the plan; beside a refusal its places are 0.
-#[derive(Drop)]
+#[derive(Clone, Copy)]
 pub struct SingleJudged {
     pub answer: VerdictAnswer,
     pub plan: SinglePlan,
 }
 
 // A lot closed on a single plan, likewise.
-#[derive(Drop)]
+#[derive(Clone, Copy)]
 pub struct SingleClosed {
     pub answer: ClosedAnswer,
     pub plan: SinglePlan,

@@ -28,14 +28,14 @@ pub const VARIABLES: usize = 3;
 pub const SIGMA: usize = 4;
 
 // A reduced single, before it is cut to the lot.
-#[derive(Drop)]
+#[derive(Clone, Copy)]
 pub struct ReducedSingle {
     pub n: u16,
     pub ac: u16,
 }
 
 // Sizes, Ac and Re of each stage; 0 past the stages.
-#[derive(Drop)]
+#[derive(Clone, Copy)]
 pub struct StagedPlan {
     pub stages: u8,
     pub sizes: [u16; 7],
@@ -44,7 +44,7 @@ pub struct StagedPlan {
 }
 
 // h_a and h_r in thousandths, g in hundred-thousandths, the last item nt and its acceptance number.
-#[derive(Drop)]
+#[derive(Clone, Copy)]
 pub struct SequentialPlan {
     pub ha: u16,
     pub hr: u16,
@@ -54,14 +54,14 @@ pub struct SequentialPlan {
 }
 
 // How many readings, and k in thousandths.
-#[derive(Drop)]
+#[derive(Clone, Copy)]
 pub struct VariablesPlan {
     pub n: u16,
     pub k: u16,
 }
 
 // n, and a K for each side; for one limit both are its own.
-#[derive(Drop)]
+#[derive(Clone, Copy)]
 pub struct SidesPlan {
     pub n: u16,
     pub upper_k: u16,
@@ -69,7 +69,7 @@ pub struct SidesPlan {
 }
 
 // What an entry is looked up by; a reduced single has no severity in its key.
-#[derive(Drop)]
+#[derive(Clone, Copy)]
 pub struct Key {
     pub severity: u32,
     pub letter: u8,
@@ -77,7 +77,7 @@ pub struct Key {
 }
 
 // What reading an entry comes to; the place is counted in numbers from the entry's start.
-#[derive(Drop)]
+#[derive(Clone, Copy)]
 pub enum Walk {
     Ends(usize),
     Broken(usize),

@@ -6,7 +6,7 @@ ghost use Rattle.entry.specs.Paper.{range_paper};
 use crate::{REDUCED, SEQUENTIAL, STAGED};
 
 // The least and the most that a number of an entry may be.
-#[derive(Drop)]
+#[derive(Clone, Copy)]
 pub(crate) struct Range(u16, u16);
 
 // The ranges of a reduced entry by place: letter, column, n and Ac; past them, whatever fits.

@@ -1,3 +1,5 @@
+#![tactic(auto)]
+
 // Document 01, 'Variables, s method', and document 02, T-07: the verdict on readings, and the screen.
 ghost use Rattle.std.specs.Prelude.{◌≡◌, true, false, ◌*◌, ◌≤◌, pos, ◌-ℤ◌, length};
 ghost use Rattle.rules.specs.Refusals.{given};
@@ -15,14 +17,14 @@ ghost use Rattle.entry.specs.Paper.{sides_paper};
 use entry::{SidesPlan, VariablesPlan};
 use plans::{Verdict, VerdictAnswer};
 
-#[derive(Drop)]
+#[derive(Clone, Copy)]
 pub struct Figures {
     pub mean: f64,
     pub variance: f64,
 }
 
 // What the screen shows. A single reading has a mean and no variance.
-#[derive(Drop)]
+#[derive(Clone, Copy)]
 pub enum Shown {
     Refused(u8, usize),
     Mean(f64),
@@ -30,14 +32,14 @@ pub enum Shown {
 }
 
 // How the spread is had: from the readings, by the s method; or it is known, in thousandths of a gauge unit.
-#[derive(Drop)]
+#[derive(Clone, Copy)]
 pub enum Spread {
     Estimated,
     Known(u32),
 }
 
 // Which of the two limits that are handed over a drawing has; the other counts for nothing.
-#[derive(Drop)]
+#[derive(Clone, Copy)]
 pub enum Sides {
     Upper,
     Lower,
@@ -45,7 +47,7 @@ pub enum Sides {
 }
 
 // Whether all readings are in range; if so, the sums of the readings plus 1,000 each, and of those squared.
-#[derive(Drop)]
+#[derive(Clone, Copy)]
 struct Sums {
     sound: bool,
     t: u64,

@@ -1,3 +1,5 @@
+#![tactic(auto)]
+
 // The list of a history's severities, for any work; and a supply's record, lent, that an event moves.
 ghost use Rattle.std.specs.Prelude.{◌≡◌};
 ghost use Rattle.severity.specs.Paper.{work_paper};

@@ -112,7 +112,7 @@ pub struct FractionalPlan {
 }
 
 // What judging a sample says; a sample that is not staged is one stage of one.
-#[derive(Drop)]
+#[derive(Clone, Copy)]
 pub struct Verdict {
     pub accepted: bool,
     pub used: u32,
@@ -121,33 +121,33 @@ pub struct Verdict {
     pub stages: u8,
 }
 
-#[derive(Drop)]
+#[derive(Clone, Copy)]
 pub enum LetterAnswer {
     Refused(u8, usize),
     Given(u8),
 }
 
 // Is there a plan? It stands beside the answer.
-#[derive(Drop)]
+#[derive(Clone, Copy)]
 pub enum Outcome {
     Refused(u8, usize),
     Given,
 }
 
-#[derive(Drop)]
+#[derive(Clone, Copy)]
 pub enum VerdictAnswer {
     Refused(u8, usize),
     Given(Verdict),
 }
 
 // A plan beside the answer, zeros beside a refusal.
-#[derive(Drop)]
+#[derive(Clone, Copy)]
 pub struct SinglePlanned {
     pub answer: Outcome,
     pub plan: SinglePlan,
 }
 
-#[derive(Drop)]
+#[derive(Clone, Copy)]
 pub struct FractionalPlanned {
     pub answer: Outcome,
     pub plan: FractionalPlan,

@@ -1,3 +1,5 @@
+#![tactic(auto)]
+
 // One entry of a plan book as a row of numbers: would the reader take it, laid in the order of the book, and shown.
 ghost use Rattle.std.specs.Prelude.{◌≡◌, ◌+◌, ◌*◌, ◌≤◌, ◌<◌, [], ◌++◌, length, get_or, drop, replicate};
 ghost use Rattle.std.proofs.lemmas.List.Edits.{sets};

@@ -1,3 +1,5 @@
+#![tactic(auto)]
+
 // Samples judged on a plan that is handed over: 16-bit little-endian items of lent bytes.
 ghost use Rattle.std.specs.Prelude.{◌≡◌, ◌+◌, ◌*◌, ◌≤◌, ◌<◌, length, drop, get_or};
 ghost use Rattle.rules.specs.Numbers.{numbers_of, half_left};
@@ -15,7 +17,7 @@ use entry::{SequentialPlan, StagedPlan};
 use plans::{SinglePlan, Verdict, VerdictAnswer};
 
 // What comparing a running total says.
-#[derive(Drop)]
+#[derive(Clone, Copy)]
 enum Decision {
     Decides(bool),
     GoesOn,
@@ -99,7 +101,7 @@ pub fn sequential_sample(plan: SequentialPlan, sample: &[u8]) -> VerdictAnswer
 }
 
 // What taking items comes to: one is missing, one is over 1 where items are 0 or 1, or a total.
-#[derive(Drop)]
+#[derive(Clone, Copy)]
 enum Taken {
     Missing,
     Over,
@@ -220,7 +222,7 @@ pub fn curtailed_sample(column: u32, plan: SinglePlan, sample: &[u8]) -> Verdict
 // As Ac it means no acceptance at that stage.
 const MARK: u64 = 65535;
 
-#[derive(Drop)]
+#[derive(Clone, Copy)]
 struct Stage {
     size: u16,
     ac: u16,

@@ -76,7 +76,7 @@ pub enum Event {
 }
 
 // The next record, or a refusal.
-#[derive(Drop)]
+#[derive(Clone, Copy)]
 pub enum Stepped {
     Refused(u8, usize),
     Given(Record),

@@ -33,7 +33,7 @@ pub struct Supply {
 }
 
 // The next record, or a refusal.
-#[derive(Drop)]
+#[derive(Clone, Copy)]
 pub enum Moved {
     Refused(u8, usize),
     Given(Supply),

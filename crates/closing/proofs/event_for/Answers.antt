@@ -1,0 +1,7 @@
+-- `closing::event_for` meets its contract. Assumes nothing.
+use borrow.Author.Rules.{rules}
+use Rattle.closing.proofs.Counting.{original}
+use Rattle.closing.proofs.event_for.Goals as goal
+
+pub returns : goal.returns
+returns c = search original

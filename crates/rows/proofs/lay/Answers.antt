@@ -1,0 +1,45 @@
+-- `rows::lay` meets its contract.
+-- Assumes nothing.
+use Prim.Native.Nat.{◌-◌}
+use mathlib.Core.Path.{refl}
+use native.Mathlib.Omega.{arith}
+use Rattle.rules.specs.Numbers.{numbers_of}
+use Rattle.rules.specs.Book.{kind_at}
+use Rattle.rules.proofs.Numbers.{numbers-low}
+use Rattle.rows.specs.Paper.{Laying}
+use Rattle.rows.proofs.AnyRow.{any-rowed, placed}
+use Rattle.rows.proofs.Laid.{lay-opens, lay-there, lay-next, lay-done}
+use borrow.Author.Rules.{rules}
+use Rattle.rows.proofs.lay.Goals as goal
+
+pub overflow_add-at : goal.overflow_add-at
+overflow_add-at c =
+    omega (arith, numbers-low c.args.out.now)
+
+pub copy_number-requires : goal.copy_number-requires
+copy_number-requires c =
+    let l = c in
+    let a = l in
+    let s = a in
+    lay-there l.loop-i.invariant _ (omega arith)
+    (placed (kind_at s.args.kind) l.loop-i.i c.row_place-from.ensures a.after_key-after.ensures)
+    (any-rowed s.args.kind) s.requires s.args.row.now refl
+
+pub loop-i-preserved : goal.loop-i-preserved
+loop-i-preserved c =
+    let p = c in
+    let l = p in
+    let a = l in
+    let kind = a.args.kind in
+    lay-next l.loop-i.invariant _ (omega arith)
+    (placed (kind_at kind) l.loop-i.i p.row_place-from.ensures a.after_key-after.ensures) _
+    c.copy_number.ensures
+
+pub returns : goal.returns
+returns c = lay-done c.loop-i.invariant (omega arith)
+
+pub loop-i-init : goal.loop-i-init
+loop-i-init c = lay-opens _ _ _ _
+
+pub shape_of-out : goal.shape_of-out
+shape_of-out c = c.loop-i.invariant.long

@@ -1,0 +1,17 @@
+-- `samples::sequential_sample` meets its contract. The invariant: the walk has come to the item at place i.
+-- Assumes nothing.
+use Prim.Native.Nat.{◌-◌, ◌≤◌}
+use mathlib.Core.Path.{sym, ap, ◌∙◌}
+use native.Mathlib.Omega.{arith}
+use borrow.Author.Rules.{rules}
+use Rattle.rules.proofs.SampleSteps.{SequentialAt, sequential-start, sequential-short, sequential-over}
+use Rattle.rules.proofs.SampleSteps.{sequential-decides, sequential-goes, goes-before}
+use Rattle.samples.specs.Paper.{decision_paper}
+use Rattle.entry.specs.Paper.{sequential_paper}
+use Rattle.samples.proofs.sequential_sample.Given as goal
+
+abbrev pub invariant-loop-i : goal.invariant-loop-i
+invariant-loop-i l = (l.i ≤ l.have) × (l.i ≤ 65534) × (l.d ≤ l.i) × SequentialAt (sequential_paper l.plan) l.sample l.i l.d
+
+abbrev pub decreases-loop-i : goal.decreases-loop-i
+decreases-loop-i l = l.have - l.i

@@ -1,0 +1,38 @@
+-- `samples::take_items` meets its contract: one law for each exit of the loop.
+-- Assumes nothing.
+use Prim.Native.Nat.{◌+◌, ◌-◌, ◌*◌, ◌≤◌}
+use mathlib.Core.Path.{sym, ◌∙◌}
+use borrow.Author.Rules.{rules}
+use native.Mathlib.Omega.{arith}
+use Rattle.rules.specs.Numbers.{numbers_of}
+use Rattle.rules.proofs.SampleSteps.{TakingAt, taking-start, taking-done, taking-missing, taking-over, taking-item}
+use Rattle.samples.proofs.take_items.Goals as goal
+
+pub loop-i-init : goal.loop-i-init
+loop-i-init c = (omega arith, omega arith, omega arith, taking-start _ _ _ _ _)
+
+pub returns-then-count-i : goal.returns-then-count-i
+returns-then-count-i c =
+    let at = c in
+    (sym (taking-missing at.loop-i.invariant.3 (omega arith) (omega (arith, at.count-count.ensures))), omega arith)
+
+pub returns-then-is_illegal : goal.returns-then-is_illegal
+returns-then-is_illegal c =
+    let at = c in (
+      sym (taking-over at.loop-i.invariant.3 (omega arith) (omega (arith, at.count-count.ensures))
+          c.number-item.ensures.0 (sym c.is_illegal.ensures ∙ c.if-is_illegal.true)),
+      omega arith,
+    )
+
+pub loop-i-preserved : goal.loop-i-preserved
+loop-i-preserved c =
+    let at = c in (
+      omega arith,
+      omega arith,
+      omega arith,
+      taking-item at.loop-i.invariant.3 (omega arith) (omega (arith, at.count-count.ensures))
+          c.number-item.ensures.0 (sym c.is_illegal.ensures ∙ c.if-is_illegal.false),
+    )
+
+pub returns : goal.returns
+returns c = (sym (taking-done c.loop-i.invariant.3 (omega arith)), omega arith)

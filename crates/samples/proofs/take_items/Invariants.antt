@@ -1,0 +1,16 @@
+-- `samples::take_items` meets its contract: one law for each exit of the loop.
+-- Assumes nothing.
+use Prim.Native.Nat.{◌+◌, ◌-◌, ◌*◌, ◌≤◌}
+use mathlib.Core.Path.{sym, ◌∙◌}
+use borrow.Author.Rules.{rules}
+use native.Mathlib.Omega.{arith}
+use Rattle.rules.specs.Numbers.{numbers_of}
+use Rattle.rules.proofs.SampleSteps.{TakingAt, taking-start, taking-done, taking-missing, taking-over, taking-item}
+use Rattle.samples.proofs.take_items.Given as goal
+
+abbrev pub invariant-loop-i : goal.invariant-loop-i
+invariant-loop-i l = (l.from ≤ l.i) × (l.i ≤ l.end) × (l.t ≤ l.total + 65535 * (l.i - l.from))
+    × TakingAt l.column l.k l.total l.from (numbers_of l.sample) l.i l.t
+
+abbrev pub decreases-loop-i : goal.decreases-loop-i
+decreases-loop-i l = l.end - l.i
