@@ -1,3 +1,5 @@
+#![tactic(auto)]
+
 // Which plan a lot gets: of the tables, and of the book, of each kind.
 ghost use Rattle.std.specs.Prelude.{◌≡◌, ◌≤◌, ◌<◌};
 ghost use Rattle.rules.specs.Refusals.{refused};

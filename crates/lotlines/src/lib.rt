@@ -1,3 +1,5 @@
+#![tactic(auto)]
+
 // lotlog's lines: bytes of input in pieces of any length, to lines of output, in constant memory.
 ghost use Rattle.std.specs.Prelude.{◌≡◌, length};
 ghost use Rattle.rules.specs.Log.{line_after, logged_lot, logged_order, logged_as};

@@ -1,3 +1,5 @@
+#![tactic(auto)]
+
 // A plan book's entries: how many a section has, and each as a row of numbers.
 ghost use Rattle.std.specs.Prelude.{◌≡◌, ◌<◌, length};
 ghost use Rattle.rules.specs.Numbers.{numbers_of};

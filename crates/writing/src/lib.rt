@@ -1,3 +1,5 @@
+#![tactic(auto)]
+
 // A plan book written from its entries, which are rows of numbers, one lent list for each section.
 ghost use Rattle.std.specs.Prelude.{◌≡◌, ◌+◌, ◌*◌, ◌≤◌, ◌<◌, ◌∷◌, [], length, get_or};
 ghost use Rattle.std.proofs.lemmas.List.Edits.{sets};

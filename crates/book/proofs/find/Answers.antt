@@ -11,10 +11,9 @@ use Rattle.book.proofs.find.Goals as goal
 pub returns-then-held-eq0 : goal.returns-then-held-eq0
 unfolding place_held
 returns-then-held-eq0 c =
-    let held = c.held-1.given in
-    let none : refused 6 0 ≡ from_place held.0.0 = rw (eq-eqb held.0.0 0 c.if-held-eq0.true) in
+    let none : refused 6 0 ≡ from_place c.in-Sound.held = rw (eq-eqb c.in-Sound.held 0 c.if-held-eq0.true) in
     none
-    ∙ by-pass from_place c.args.book.now _ held.1
+    ∙ by-pass from_place c.args.book.now _ c.in-Sound.is
     c.check_whole.ensures
 
 pub returns-in-Broken : goal.returns-in-Broken
@@ -26,8 +25,7 @@ returns-in-Broken c =
 pub returns-else-held-eq0 : goal.returns-else-held-eq0
 unfolding place_held
 returns-else-held-eq0 c =
-    let held = c.held-1.given in
-    let some : given held.0.0 ≡ from_place held.0.0 = rw (ne_eqb held.0.0 0 c.if-held-eq0.false) in
+    let some : given c.in-Sound.held ≡ from_place c.in-Sound.held = rw (ne_eqb c.in-Sound.held 0 c.if-held-eq0.false) in
     some
-    ∙ by-pass from_place c.args.book.now _ held.1
+    ∙ by-pass from_place c.args.book.now _ c.in-Sound.is
     c.check_whole.ensures

@@ -21,49 +21,43 @@ returns-then-kind-ge-KINDS c =
 
 pub returns-then-count-at : goal.returns-then-count-at
 returns-then-count-at c =
-    let s = c in
-    let a = s.args in
+    let a = c.args in
     laid-past a.kind a.severity a.letter a.column a.book.now (omega arith) _
-    s.section_place-at.ensures.0 (omega arith)
+    c.section_place-at.ensures.0 (omega arith)
 
 -- what was sought is the place in the section
-sought : (c : After-seek-seen) → let s = c in
-    let a = s.args in
+sought : (c : After-seek-seen) → let a = c.args in
     c.seek-seen.result
     ≡ section_place (kind_at a.kind) (key_for (kind_at a.kind) a.severity a.letter a.column)
-    (drop s.section_place-at.result (numbers_of a.book.now))
+    (drop c.section_place-at.result (numbers_of a.book.now))
 sought c =
-    let s = c in
-    let a = s.args in
+    let a = c.args in
     c.seek-seen.ensures
     ∙ ap (λ (l : List ℕ).
     section_place (kind_at a.kind) (key_for (kind_at a.kind) a.severity a.letter a.column) l)
-    (numbers-part a.book.now s.section_place-at.result)
+    (numbers-part a.book.now c.section_place-at.result)
 
 pub returns-then-seen-eq0 : goal.returns-then-seen-eq0
 returns-then-seen-eq0 c =
-    let s = c in
-    let a = s.args in
+    let a = c.args in
     laid-unseen a.kind a.severity a.letter a.column a.book.now (omega arith) _
-    s.section_place-at.ensures.0 _ (sought (goal.at.returns-then-seen-eq0 c).After-seek-seen) c.if-seen-eq0.true
+    c.section_place-at.ensures.0 _ (sought (goal.at.returns-then-seen-eq0 c).After-seek-seen) c.if-seen-eq0.true
 
 pub overflow_add-result : goal.overflow_add-result
 overflow_add-result c =
-    let s = c in
-    let a = s.args in
+    let a = c.args in
     omega (
       arith,
       laid-near a.kind a.severity a.letter a.column a.book.now (omega arith) _
-          s.section_place-at.ensures.0 _ (sought (goal.at.overflow_add-result c).After-seek-seen) (omega arith),
+          c.section_place-at.ensures.0 _ (sought (goal.at.overflow_add-result c).After-seek-seen) (omega arith),
       numbers-low a.book.now,
     )
 
 pub returns : goal.returns
 returns c =
-    let s = c in
-    let a = s.args in
+    let a = c.args in
     laid-seen a.kind a.severity a.letter a.column a.book.now (omega arith) _
-    s.section_place-at.ensures.0 _ (sought (goal.at.returns c).After-seek-seen) c.if-seen-eq0.false
+    c.section_place-at.ensures.0 _ (sought (goal.at.returns c).After-seek-seen) c.if-seen-eq0.false
 
 pub slice_bounds-seek-count : goal.slice_bounds-seek-count
 slice_bounds-seek-count c = omega (arith, numbers-low c.args.book.now)

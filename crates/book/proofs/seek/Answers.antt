@@ -21,34 +21,28 @@ returns-then-end-at c =
 
 pub returns-then-is_under : goal.returns-then-is_under
 returns-then-is_under c =
-    let l = c in
-    let a = l.args in
-    let under = rw (numbers-part a.part.now l.loop-i.at) at c.is_under.ensures in
-    seek-here l.loop-i.invariant (omega arith) (sym under ∙ c.if-is_under.true)
+    let a = c.args in
+    let under = rw (numbers-part a.part.now c.loop-i.at) at c.is_under.ensures in
+    seek-here c.loop-i.invariant (omega arith) (sym under ∙ c.if-is_under.true)
 
 pub slice_bounds-size_at-count : goal.slice_bounds-size_at-count
 slice_bounds-size_at-count c =
-    let l = c in
-    omega (arith, numbers-low l.args.part.now)
+    omega (arith, numbers-low c.args.part.now)
 
 pub slice_bounds-size_at-start : goal.slice_bounds-size_at-start
 slice_bounds-size_at-start c =
-    let l = c in
-    omega (arith, numbers-low l.args.part.now)
+    omega (arith, numbers-low c.args.part.now)
 
 pub overflow_add-at : goal.overflow_add-at
 overflow_add-at c =
-    let l = c in
-    omega (arith, numbers-low l.args.part.now)
+    omega (arith, numbers-low c.args.part.now)
 
 pub loop-i-preserved : goal.loop-i-preserved
 loop-i-preserved c =
-    let e = c in
-    let l = e in
-    let a = l.args in
-    let under = rw (numbers-part a.part.now l.loop-i.at) at e.is_under.ensures in
-    let size = rw (numbers-part a.part.now l.loop-i.at) at c.size_at-at.ensures.0 in
-    seek-next l.loop-i.invariant (omega arith) (sym under ∙ e.if-is_under.false) size
+    let a = c.args in
+    let under = rw (numbers-part a.part.now c.loop-i.at) at c.is_under.ensures in
+    let size = rw (numbers-part a.part.now c.loop-i.at) at c.size_at-at.ensures.0 in
+    seek-next c.loop-i.invariant (omega arith) (sym under ∙ c.if-is_under.false) size
 
 pub loop-i-init : goal.loop-i-init
 loop-i-init c = seek-opens c.number-entries.ensures.0

@@ -13,9 +13,8 @@ use Rattle.entry.proofs.entry_numbers.Goals as goal
 
 pub loop-i-init : goal.loop-i-init
 loop-i-init c =
-    let a = c in
-    let k = kind_at a.args.kind in
-    let e = numbers_of a.args.e.now in
+    let k = kind_at c.args.kind in
+    let e = numbers_of c.args.e.now in
     let size = c.entry_size-size.result in
     let z : size - 0 ≡ size = omega arith in
     let s : size ≡ size_of k e =
@@ -26,37 +25,33 @@ loop-i-init c =
 
 pub returns-then-whole-i : goal.returns-then-whole-i
 returns-then-whole-i c =
-    let a = c in
     let l = c.loop-i in
     sym (l.invariant.1
-    ∙ from-short (kind_at a.args.kind) (numbers_of a.args.e.now)
+    ∙ from-short (kind_at c.args.kind) (numbers_of c.args.e.now)
     c.entry_size-size.result l.i (omega arith) (omega arith))
 
 pub loop-i-preserved : goal.loop-i-preserved
 loop-i-preserved c =
-    let a = c in
     let l = c.loop-i in (
       omega arith,
       l.invariant.1
-          ∙ from-right (kind_at a.args.kind) (numbers_of a.args.e.now)
+          ∙ from-right (kind_at c.args.kind) (numbers_of c.args.e.now)
           c.entry_size-size.result l.i (omega arith) (omega arith)
           (sym c.right_at.ensures ∙ c.if-right_at.true),
     )
 
 pub returns-else-right_at : goal.returns-else-right_at
 returns-else-right_at c =
-    let a = c in
     let l = c.loop-i in
     sym (l.invariant.1
-    ∙ from-wrong (kind_at a.args.kind) (numbers_of a.args.e.now)
+    ∙ from-wrong (kind_at c.args.kind) (numbers_of c.args.e.now)
     c.entry_size-size.result l.i (omega arith) (omega arith)
     (sym c.right_at.ensures ∙ c.if-right_at.false))
 
 pub returns : goal.returns
 returns c =
-    let a = c in
     let l = c.loop-i in
     let size = c.entry_size-size.result in
     let q : l.i ≡ size = omega arith in
-    sym (l.invariant.1 ∙ from-done (kind_at a.args.kind) (numbers_of a.args.e.now) size l.i (omega arith)
+    sym (l.invariant.1 ∙ from-done (kind_at c.args.kind) (numbers_of c.args.e.now) size l.i (omega arith)
     ∙ ap ends q)

@@ -10,10 +10,9 @@ use Rattle.entry.proofs.right_at.Goals as goal
 
 pub returns-then-fits : goal.returns-then-fits
 returns-then-fits c =
-    let a = c in
-    let k = kind_at a.args.kind in
-    let e = numbers_of a.args.e.now in
-    let i = a.args.i in
+    let k = kind_at c.args.kind in
+    let e = numbers_of c.args.e.now in
+    let i = c.args.i in
     let x = c.number16-x.ensures in
     let w : within (get_or k.ranges i anything) (get_or e i 0) ≡ true =
     ap (within (get_or k.ranges i anything)) (sym x) ∙ sym c.fits.ensures
@@ -22,10 +21,9 @@ returns-then-fits c =
 
 pub returns : goal.returns
 returns c =
-    let a = c in
-    let k = kind_at a.args.kind in
-    let e = numbers_of a.args.e.now in
-    let i = a.args.i in
+    let k = kind_at c.args.kind in
+    let e = numbers_of c.args.e.now in
+    let i = c.args.i in
     let x = c.number16-x.ensures in
     let w : within (get_or k.ranges i anything) (get_or e i 0) ≡ false =
     ap (within (get_or k.ranges i anything)) (sym x) ∙ sym c.fits.ensures ∙ c.if-fits.false in

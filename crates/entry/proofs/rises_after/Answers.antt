@@ -13,43 +13,38 @@ loop-i-init c = (search rules, refl)
 
 pub returns-then-have-i : goal.returns-then-have-i
 returns-then-have-i c =
-    let a = c in
     let l = c.loop-i in
     sym (l.invariant.1
-    ∙ key-none (numbers_of a.args.before.now) (numbers_of a.args.e.now) (kind_at a.args.kind).key l.i
-    a.requires (omega arith) (omega arith))
+    ∙ key-none (numbers_of c.args.before.now) (numbers_of c.args.e.now) (kind_at c.args.kind).key l.i
+    c.requires (omega arith) (omega arith))
 
 pub returns-then-x-y : goal.returns-then-x-y
 returns-then-x-y c =
-    let a = c in
     let l = c.loop-i in
     sym (l.invariant.1
-    ∙ key-less (numbers_of a.args.before.now) (numbers_of a.args.e.now) (kind_at a.args.kind).key l.i
-    a.requires (omega arith) (omega arith) (omega arith))
+    ∙ key-less (numbers_of c.args.before.now) (numbers_of c.args.e.now) (kind_at c.args.kind).key l.i
+    c.requires (omega arith) (omega arith) (omega arith))
 
 pub returns-then-y-x : goal.returns-then-y-x
 returns-then-y-x c =
-    let a = c in
     let l = c.loop-i in
     sym (l.invariant.1
-    ∙ key-more (numbers_of a.args.before.now) (numbers_of a.args.e.now) (kind_at a.args.kind).key l.i
-    a.requires (omega arith) (omega arith) (omega arith))
+    ∙ key-more (numbers_of c.args.before.now) (numbers_of c.args.e.now) (kind_at c.args.kind).key l.i
+    c.requires (omega arith) (omega arith) (omega arith))
 
 pub loop-i-preserved : goal.loop-i-preserved
 loop-i-preserved c =
-    let a = c in
     let l = c.loop-i in (
       omega arith,
       l.invariant.1
-          ∙ key-same (numbers_of a.args.before.now) (numbers_of a.args.e.now) (kind_at a.args.kind).key
+          ∙ key-same (numbers_of c.args.before.now) (numbers_of c.args.e.now) (kind_at c.args.kind).key
           l.i
-          a.requires (omega arith) (omega arith) (omega arith) (omega arith),
+          c.requires (omega arith) (omega arith) (omega arith) (omega arith),
     )
 
 pub returns : goal.returns
 returns c =
-    let a = c in
     let l = c.loop-i in
     sym (l.invariant.1
-    ∙ key-done (numbers_of a.args.before.now) (numbers_of a.args.e.now) (kind_at a.args.kind).key l.i
-    a.requires (omega arith))
+    ∙ key-done (numbers_of c.args.before.now) (numbers_of c.args.e.now) (kind_at c.args.kind).key l.i
+    c.requires (omega arith))

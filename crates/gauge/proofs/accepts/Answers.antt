@@ -13,31 +13,26 @@ use Rattle.gauge.proofs.accepts.Goals as goal
 pub side_accepts-requires : goal.side_accepts-requires
 unfolding limits_in
 side_accepts-requires c =
-    let o = c in
-    let g : limits_in (one true o.args.upper) ≡ true = rw c.in-Upper.is at o.requires.1 in
-    (o.requires.0, o.requires.2, same-gauge o.args.upper o.ranges.upper ∙ g, o.requires.4, o.requires.5)
+    let g : limits_in (one true c.args.upper) ≡ true = rw c.in-Upper.is at c.requires.1 in
+    (c.requires.0, c.requires.2, same-gauge c.args.upper c.ranges.upper ∙ g, c.requires.4, c.requires.5)
 
 pub side_accepts-requires-in-Lower : goal.side_accepts-requires-in-Lower
 unfolding limits_in
 side_accepts-requires-in-Lower c =
-    let o = c in
-    let g : limits_in (one false o.args.lower) ≡ true = rw c.in-Lower.is at o.requires.1 in
-    (o.requires.0, o.requires.3, same-gauge o.args.lower o.ranges.lower ∙ g, o.requires.4, o.requires.5)
+    let g : limits_in (one false c.args.lower) ≡ true = rw c.in-Lower.is at c.requires.1 in
+    (c.requires.0, c.requires.3, same-gauge c.args.lower c.ranges.lower ∙ g, c.requires.4, c.requires.5)
 
 pub side_accepts-requires-in-Both : goal.side_accepts-requires-in-Both
 side_accepts-requires-in-Both c =
-    let o = c in
-    let g : limits_in (both o.args.upper o.args.lower) ≡ true = rw c.in-Both.is at o.requires.1 in
-    let u = upper-in o.args.upper o.args.lower g in
-    (o.requires.0, o.requires.2, same-gauge o.args.upper o.ranges.upper ∙ u, o.requires.4, o.requires.5)
+    let g : limits_in (both c.args.upper c.args.lower) ≡ true = rw c.in-Both.is at c.requires.1 in
+    let u = upper-in c.args.upper c.args.lower g in
+    (c.requires.0, c.requires.2, same-gauge c.args.upper c.ranges.upper ∙ u, c.requires.4, c.requires.5)
 
 pub side_accepts-requires-in-Both-2 : goal.side_accepts-requires-in-Both-2
 side_accepts-requires-in-Both-2 c =
-    let e = c in
-    let o = e in
-    let g : limits_in (both o.args.upper o.args.lower) ≡ true = rw e.in-Both.is at o.requires.1 in
-    let l = lower-in o.args.upper o.args.lower g in
-    (o.requires.0, o.requires.3, same-gauge o.args.lower o.ranges.lower ∙ l, o.requires.4, o.requires.5)
+    let g : limits_in (both c.args.upper c.args.lower) ≡ true = rw c.in-Both.is at c.requires.1 in
+    let l = lower-in c.args.upper c.args.lower g in
+    (c.requires.0, c.requires.3, same-gauge c.args.lower c.ranges.lower ∙ l, c.requires.4, c.requires.5)
 
 rejected : (a b : Bool) → a ≡ false → false ≡ (a && b)
 rejected a b h = rw h
@@ -47,30 +42,24 @@ second a b c h e = rw h e
 
 pub returns-then-not-side_accepts : goal.returns-then-not-side_accepts
 returns-then-not-side_accepts c =
-    let e = c in
-    let o = e in
-    let z = to_z-of_z w32 o.args.upper o.ranges.upper in
-    rw e.in-Both.is
-    (rejected _ _ (sym (rw z at c.side_accepts-in-Both.ensures) ∙ not-true _ c.if-not-side_accepts.true))
+    let z = to_z-of_z w32 c.args.upper c.ranges.upper in
+    rw c.in-Both.is
+    (rejected _ _ (sym (rw z at c.side_accepts-in-Both.ensures) ∙ c.if-not-side_accepts.true))
 
 pub returns-in-Upper : goal.returns-in-Upper
 returns-in-Upper c =
-    let o = c in
-    let z = to_z-of_z w32 o.args.upper o.ranges.upper in
+    let z = to_z-of_z w32 c.args.upper c.ranges.upper in
     rw c.in-Upper.is (rw z at c.side_accepts.ensures)
 
 pub returns-in-Lower : goal.returns-in-Lower
 returns-in-Lower c =
-    let o = c in
-    let z = to_z-of_z w32 o.args.lower o.ranges.lower in
+    let z = to_z-of_z w32 c.args.lower c.ranges.lower in
     rw c.in-Lower.is (rw z at c.side_accepts-in-Lower.ensures)
 
 pub returns-else-not-side_accepts : goal.returns-else-not-side_accepts
 returns-else-not-side_accepts c =
-    let e = c in
-    let o = e in
-    let u = to_z-of_z w32 o.args.upper o.ranges.upper in
-    let l = to_z-of_z w32 o.args.lower o.ranges.lower in
-    rw e.in-Both.is
-    (second _ _ _ (sym (rw u at c.side_accepts-in-Both.ensures) ∙ not-false _ c.if-not-side_accepts.false)
+    let u = to_z-of_z w32 c.args.upper c.ranges.upper in
+    let l = to_z-of_z w32 c.args.lower c.ranges.lower in
+    rw c.in-Both.is
+    (second _ _ _ (sym (rw u at c.side_accepts-in-Both.ensures) ∙ c.if-not-side_accepts.false)
     (rw l at c.side_accepts-in-Both-2.ensures))

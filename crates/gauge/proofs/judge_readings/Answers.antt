@@ -36,10 +36,10 @@ side-right p h false =
     variables-right (side_of false p) (and-right (could_hold variables (variables_entry (side_of true p))) _ h)
 
 pub returns-then-not-sides_hold : goal.returns-then-not-sides_hold
-returns-then-not-sides_hold c = sym (sample-unheld _ _ _ _ (sym c.sides_hold.ensures ∙ not-true _ c.if-not-sides_hold.true))
+returns-then-not-sides_hold c = sym (sample-unheld _ _ _ _ (sym c.sides_hold.ensures ∙ c.if-not-sides_hold.true))
 
 held : (c : Else-not-sides_hold) → sides_held (sides_paper c.args.plan) ≡ true
-held c = sym c.sides_hold.ensures ∙ not-false _ c.if-not-sides_hold.false
+held c = sym c.sides_hold.ensures ∙ c.if-not-sides_hold.false
 
 pub returns-then-readings-plan : goal.returns-then-readings-plan
 returns-then-readings-plan c = sym (sample-length _ _ _ _ (held (goal.at.returns-then-readings-plan c).Else-not-sides_hold) c.if-readings-plan.true)
@@ -51,17 +51,14 @@ sum_up-sums-requires c =
 
 pub returns-then-not-sums : goal.returns-then-not-sums
 returns-then-not-sums c =
-    let s = c in
-    sym (sample-reading _ _ _ _ (held s) s.if-readings-plan.false
-    (sym s.sum_up-sums.ensures.range ∙ not-true _ c.if-not-sums.true))
+    sym (sample-reading _ _ _ _ (held (goal.at.returns-then-not-sums c).Else-not-sides_hold) c.if-readings-plan.false
+    (sym c.sum_up-sums.ensures.range ∙ not-true _ c.if-not-sums.true))
 
 pub returns-then-not-spread_in : goal.returns-then-not-spread_in
 returns-then-not-spread_in c =
-    let r = c in
-    let s = r in
-    sym (sample-sigma _ _ _ _ (held s) s.if-readings-plan.false
-    (sym s.sum_up-sums.ensures.range ∙ not-false _ r.if-not-sums.false)
-    (sym c.spread_in.ensures ∙ not-true _ c.if-not-spread_in.true))
+    sym (sample-sigma _ _ _ _ (held (goal.at.returns-then-not-spread_in c).Else-not-sides_hold) c.if-readings-plan.false
+    (sym c.sum_up-sums.ensures.range ∙ not-false _ c.if-not-sums.false)
+    (sym c.spread_in.ensures ∙ c.if-not-spread_in.true))
 
 -- limits in locals hold their bits
 plain : (sides : Sides) (upper lower : ℤ) → SFits w32 upper → SFits w32 lower
@@ -70,48 +67,33 @@ plain sides upper lower f g = rw (to_z-of_z w32 upper f, to_z-of_z w32 lower g)
 
 pub returns-then-not-limits_in : goal.returns-then-not-limits_in
 returns-then-not-limits_in c =
-    let g = c in
-    let r = g in
-    let s = r in
-    let o = s in
-    let z = plain o.args.sides o.args.upper o.args.lower o.ranges.upper o.ranges.lower in
-    sym (sample-limits _ _ _ _ (held s) s.if-readings-plan.false
-    (sym s.sum_up-sums.ensures.range ∙ not-false _ r.if-not-sums.false)
-    (sym g.spread_in.ensures ∙ not-false _ g.if-not-spread_in.false)
-    (ap limits_in (sym z) ∙ sym c.limits_in.ensures ∙ not-true _ c.if-not-limits_in.true))
+    let z = plain c.args.sides c.args.upper c.args.lower c.ranges.upper c.ranges.lower in
+    sym (sample-limits _ _ _ _ (held (goal.at.returns-then-not-limits_in c).Else-not-sides_hold) c.if-readings-plan.false
+    (sym c.sum_up-sums.ensures.range ∙ not-false _ c.if-not-sums.false)
+    (sym c.spread_in.ensures ∙ c.if-not-spread_in.false)
+    (ap limits_in (sym z) ∙ sym c.limits_in.ensures ∙ c.if-not-limits_in.true))
 
 pub accepts-accepted-requires : goal.accepts-accepted-requires
 accepts-accepted-requires c =
-    let g = c in
-    let r = g in
-    let s = r in
-    let e = s in
-    let p = side-right (sides_paper e.args.plan) (held e) in (
-      sym g.spread_in.ensures ∙ not-false _ g.if-not-spread_in.false,
-      sym c.limits_in.ensures ∙ not-false _ c.if-not-limits_in.false,
+    let p = side-right (sides_paper c.args.plan) (held (goal.at.accepts-accepted-requires c).Else-not-sides_hold) in (
+      sym c.spread_in.ensures ∙ c.if-not-spread_in.false,
+      sym c.limits_in.ensures ∙ c.if-not-limits_in.false,
       p true,
       p false,
-      s.sum_up-sums.ensures.small-t,
-      s.sum_up-sums.ensures.small-q,
+      c.sum_up-sums.ensures.small-t,
+      c.sum_up-sums.ensures.small-q,
     )
 
 pub returns : goal.returns
 returns c =
-    let a = c in
-    let h = a in
-    let g = h in
-    let r = g in
-    let s = r in
-    let e = s in
-    let o = e in
-    let f = not-false _ r.if-not-sums.false in
-    let p = s.sum_up-sums.ensures in
-    let z = plain o.args.sides o.args.upper o.args.lower o.ranges.upper o.ranges.lower in
-    let n : length o.args.readings.now / 2 ≡ o.args.plan.n = omega arith in
-    let hs = p.sum f ∙ ap (λ (k : ℕ). sum_from k s.sum_up-sums.result.t) n in
-    let hw = p.squares f ∙ ap (λ (k : ℕ). squares_from k s.sum_up-sums.result.t s.sum_up-sums.result.q) n in
-    ap (λ (b : Bool). given (readings_verdict o.args.plan.n b))
-    ((rw z at a.accepts-accepted.ensures) ∙ limits-from _ _ _ _ _ (sides_paper o.args.plan) hs hw)
-    ∙ sym (sample-judged _ _ _ _ (held e) s.if-readings-plan.false (sym p.range ∙ f)
-    (sym g.spread_in.ensures ∙ not-false _ g.if-not-spread_in.false)
-    (ap limits_in (sym z) ∙ sym h.limits_in.ensures ∙ not-false _ h.if-not-limits_in.false))
+    let f = not-false _ c.if-not-sums.false in
+    let p = c.sum_up-sums.ensures in
+    let z = plain c.args.sides c.args.upper c.args.lower c.ranges.upper c.ranges.lower in
+    let n : length c.args.readings.now / 2 ≡ c.args.plan.n = omega arith in
+    let hs = p.sum f ∙ ap (λ (k : ℕ). sum_from k c.sum_up-sums.result.t) n in
+    let hw = p.squares f ∙ ap (λ (k : ℕ). squares_from k c.sum_up-sums.result.t c.sum_up-sums.result.q) n in
+    ap (λ (b : Bool). given (readings_verdict c.args.plan.n b))
+    ((rw z at c.accepts-accepted.ensures) ∙ limits-from _ _ _ _ _ (sides_paper c.args.plan) hs hw)
+    ∙ sym (sample-judged _ _ _ _ (held (goal.at.returns c).Else-not-sides_hold) c.if-readings-plan.false (sym p.range ∙ f)
+    (sym c.spread_in.ensures ∙ c.if-not-spread_in.false)
+    (ap limits_in (sym z) ∙ sym c.limits_in.ensures ∙ c.if-not-limits_in.false))

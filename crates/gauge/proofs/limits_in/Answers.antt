@@ -11,49 +11,39 @@ use Rattle.gauge.proofs.limits_in.Goals as goal
 
 pub returns-then-not-in_gauge : goal.returns-then-not-in_gauge
 returns-then-not-in_gauge c =
-    let e = c in
-    let o = e in
-    let u = same-gauge o.args.upper o.ranges.upper in
-    rw e.in-Both.is
-    (upper-out o.args.upper o.args.lower
-    (sym u ∙ sym c.in_gauge-in-Both.ensures ∙ not-true _ c.if-not-in_gauge.true))
+    let u = same-gauge c.args.upper c.ranges.upper in
+    rw c.in-Both.is
+    (upper-out c.args.upper c.args.lower
+    (sym u ∙ sym c.in_gauge-in-Both.ensures ∙ c.if-not-in_gauge.true))
 
 pub returns-then-not-in_gauge-2 : goal.returns-then-not-in_gauge-2
 returns-then-not-in_gauge-2 c =
-    let f = c in
-    let e = f in
-    let o = e in
-    let u = same-gauge o.args.upper o.ranges.upper in
-    let l = same-gauge o.args.lower o.ranges.lower in
-    rw e.in-Both.is
-    (lower-out o.args.upper o.args.lower
-    (sym u ∙ sym f.in_gauge-in-Both.ensures ∙ not-false _ f.if-not-in_gauge.false)
-    (sym l ∙ sym c.in_gauge-in-Both-2.ensures ∙ not-true _ c.if-not-in_gauge-2.true))
+    let u = same-gauge c.args.upper c.ranges.upper in
+    let l = same-gauge c.args.lower c.ranges.lower in
+    rw c.in-Both.is
+    (lower-out c.args.upper c.args.lower
+    (sym u ∙ sym c.in_gauge-in-Both.ensures ∙ c.if-not-in_gauge.false)
+    (sym l ∙ sym c.in_gauge-in-Both-2.ensures ∙ c.if-not-in_gauge-2.true))
 
 pub returns-in-Upper : goal.returns-in-Upper
 unfolding limits_in
 returns-in-Upper c =
-    let o = c in
-    rw c.in-Upper.is (c.in_gauge.ensures ∙ same-gauge o.args.upper o.ranges.upper)
+    rw c.in-Upper.is (c.in_gauge.ensures ∙ same-gauge c.args.upper c.ranges.upper)
 
 pub returns-in-Lower : goal.returns-in-Lower
 unfolding limits_in
 returns-in-Lower c =
-    let o = c in
-    rw c.in-Lower.is (c.in_gauge-in-Lower.ensures ∙ same-gauge o.args.lower o.ranges.lower)
+    rw c.in-Lower.is (c.in_gauge-in-Lower.ensures ∙ same-gauge c.args.lower c.ranges.lower)
 
 pub returns-else-not-in_gauge-2 : goal.returns-else-not-in_gauge-2
 returns-else-not-in_gauge-2 c =
-    let f = c in
-    let e = f in
-    let o = e in
-    let u = same-gauge o.args.upper o.ranges.upper in
-    let l = same-gauge o.args.lower o.ranges.lower in
+    let u = same-gauge c.args.upper c.ranges.upper in
+    let l = same-gauge c.args.lower c.ranges.lower in
     rw (
-      e.in-Both.is,
-      to_z-of_z w32 o.args.upper o.ranges.upper,
-      to_z-of_z w32 o.args.lower o.ranges.lower,
+      c.in-Both.is,
+      to_z-of_z w32 c.args.upper c.ranges.upper,
+      to_z-of_z w32 c.args.lower c.ranges.lower,
     )
-    (lower-below o.args.upper o.args.lower
-    (sym u ∙ sym f.in_gauge-in-Both.ensures ∙ not-false _ f.if-not-in_gauge.false)
-    (sym l ∙ sym c.in_gauge-in-Both-2.ensures ∙ not-false _ c.if-not-in_gauge-2.false))
+    (lower-below c.args.upper c.args.lower
+    (sym u ∙ sym c.in_gauge-in-Both.ensures ∙ c.if-not-in_gauge.false)
+    (sym l ∙ sym c.in_gauge-in-Both-2.ensures ∙ c.if-not-in_gauge-2.false))

@@ -17,14 +17,12 @@ returns-then-len-gt100 c = sym (screen-many _ c.if-len-eq1.false c.if-len-eq0.fa
 
 pub returns-then-not-sums : goal.returns-then-not-sums
 returns-then-not-sums c =
-    let e = c in
     let r = sym c.sum_up-sums.ensures.range ∙ not-true _ c.if-not-sums.true in
-    sym (screen-reading _ e.if-len-eq1.false e.if-len-eq0.false e.if-len-gt100.false r)
+    sym (screen-reading _ c.if-len-eq1.false c.if-len-eq0.false c.if-len-gt100.false r)
 
 pub returns : goal.returns
 returns c =
-    let e = c in
     let s = c.sum_up-sums.ensures in
     let f = not-false _ c.if-not-sums.false in
-    let w = screen-shows _ e.if-len-eq1.false e.if-len-eq0.false e.if-len-gt100.false (sym s.range ∙ f) in
+    let w = screen-shows _ c.if-len-eq1.false c.if-len-eq0.false c.if-len-gt100.false (sym s.range ∙ f) in
     c.show.ensures ∙ sym (w ∙ rw (s.sum f, s.squares f) refl)

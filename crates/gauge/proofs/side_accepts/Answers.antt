@@ -16,8 +16,7 @@ use Rattle.gauge.proofs.side_accepts.Goals as goal
 
 pub raised-requires : goal.raised-requires
 raised-requires c =
-    let o = c in
-    same-gauge o.args.limit o.ranges.limit ∙ o.requires.2
+    same-gauge c.args.limit c.ranges.limit ∙ c.requires.2
 
 pub overflow_mul-at_limit : goal.overflow_mul-at_limit
 overflow_mul-at_limit c = omega (arith, mul-le-mul c.requires.1.fifty c.raised.ensures.1)
@@ -34,37 +33,31 @@ figures p r k u same limit = (
 
 pub within-requires : goal.within-requires
 within-requires c =
-    let o = c in
-    let f = figures _ o.requires.1 _ _ c.side_k-k.ensures c.raised.ensures.1 in
-    (o.requires.0, f.0, f.1, f.2, f.3, o.requires.3, o.requires.3, o.requires.4)
+    let f = figures _ c.requires.1 _ _ c.side_k-k.ensures c.raised.ensures.1 in
+    (c.requires.0, f.0, f.1, f.2, f.3, c.requires.3, c.requires.3, c.requires.4)
 
 pub returns-then-upper : goal.returns-then-upper
 returns-then-upper c =
-    let s = c in
-    let o = s in
-    let a = o.args in
+    let a = c.args in
     let t = c.if-upper.true in
-    let k : s.side_k-k.result ≡ a.plan.upper_k = s.side_k-k.ensures ∙ rw t in
-    let z = sym (to_z-of_z w32 a.limit o.ranges.limit) ∙ c.raised.ensures.0 in
+    let k : c.side_k-k.result ≡ a.plan.upper_k = c.side_k-k.ensures ∙ rw t in
+    let z = sym (to_z-of_z w32 a.limit c.ranges.limit) ∙ c.raised.ensures.0 in
     rw t
     (c.within.ensures
     ∙ rw k (upper-side (spread_paper a.method) a.plan.n a.plan.upper_k a.t a.q _ a.limit z))
 
 pub within-requires-2 : goal.within-requires-2
 within-requires-2 c =
-    let o = c in
-    let f = figures _ o.requires.1 _ _ c.side_k-k.ensures c.raised.ensures.1 in
-    let t = o.requires.3 in
-    (o.requires.0, f.0, f.1, f.2, omega (arith, t, f.3), omega (arith, t, f.3), t, o.requires.4)
+    let f = figures _ c.requires.1 _ _ c.side_k-k.ensures c.raised.ensures.1 in
+    let t = c.requires.3 in
+    (c.requires.0, f.0, f.1, f.2, omega (arith, t, f.3), omega (arith, t, f.3), t, c.requires.4)
 
 pub returns : goal.returns
 returns c =
-    let s = c in
-    let o = s in
-    let a = o.args in
+    let a = c.args in
     let f = c.if-upper.false in
-    let k : s.side_k-k.result ≡ a.plan.lower_k = s.side_k-k.ensures ∙ rw f in
-    let z = sym (to_z-of_z w32 a.limit o.ranges.limit) ∙ c.raised.ensures.0 in
+    let k : c.side_k-k.result ≡ a.plan.lower_k = c.side_k-k.ensures ∙ rw f in
+    let z = sym (to_z-of_z w32 a.limit c.ranges.limit) ∙ c.raised.ensures.0 in
     rw f
     (c.within-2.ensures
     ∙ rw k (lower-side (spread_paper a.method) a.plan.n a.plan.lower_k a.t a.q _ a.limit z))

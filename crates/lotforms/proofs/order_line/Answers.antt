@@ -7,24 +7,20 @@ returns-in_default c = first-other _ 2 0 _ c.number.ensures c.in_default.is
 
 pub returns-then-last-line : goal.returns-then-last-line
 returns-then-last-line c =
-    let at₁ = c in
-    then-known _ 2 0 _ at₁.number.ensures at₁.in-Number.is
+    then-known _ 2 0 _ c.number.ensures c.in-Number.is
     (too-many _ _ _ c.if-last-line.true)
 
 pub returns-then-value-eq1 : goal.returns-then-value-eq1
 returns-then-value-eq1 c =
-    let at₁ = c in
-    then-known _ 2 0 _ at₁.number.ensures at₁.in-Number.is
+    then-known _ 2 0 _ c.number.ensures c.in-Number.is
     (one-yes _ _ _ _ _ c.if-last-line.false c.if-value-eq1.true)
 
 pub returns-then-value-eq0 : goal.returns-then-value-eq0
 returns-then-value-eq0 c =
-    let at₁ = c in
-    then-known _ 2 0 _ at₁.number.ensures at₁.in-Number.is
+    then-known _ 2 0 _ c.number.ensures c.in-Number.is
     (one-no _ _ _ _ _ c.if-last-line.false c.if-value-eq0.true)
 
 pub returns : goal.returns
 returns c =
-    let at₁ = c in
-    then-known _ 2 0 _ at₁.number.ensures at₁.in-Number.is
+    then-known _ 2 0 _ c.number.ensures c.in-Number.is
     (one-neither _ _ _ _ _ c.if-last-line.false c.if-value-eq1.false c.if-value-eq0.false)

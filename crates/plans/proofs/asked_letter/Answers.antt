@@ -35,10 +35,9 @@ returns-then-lot-eq-STOPPED c =
 
 pub returns-in-Refused : goal.returns-in-Refused
 returns-in-Refused c =
-    let at = c in
     sym
-    (asked-refused (asked_paper at.args.lot) at.if-lot-gt-STOPPED.false _ _
-    (sym at.letter.ensures ∙ ap letter_paper c.in-Refused.is))
+    (asked-refused (asked_paper c.args.lot) c.if-lot-gt-STOPPED.false _ _
+    (sym c.letter.ensures ∙ ap letter_paper c.in-Refused.is))
 
 pub returns-else-lot-eq-STOPPED : goal.returns-else-lot-eq-STOPPED
 returns-else-lot-eq-STOPPED c =

@@ -41,12 +41,11 @@ in_fractions-requires c =
 
 pub returns-in-Refused : goal.returns-in-Refused
 returns-in-Refused c =
-    let at = c in
-    let q = asked_paper at.args.lot in
+    let q = asked_paper c.args.lot in
     c.fractional_unplanned.ensures
     ∙ sym
     (ap (in_mode q)
-    (plain-refused q _ _ (sym at.asked_letter.ensures ∙ ap letter_paper c.in-Refused.is)))
+    (plain-refused q _ _ (sym c.asked_letter.ensures ∙ ap letter_paper c.in-Refused.is)))
 
 pub returns-else-lot-eq-REDUCED : goal.returns-else-lot-eq-REDUCED
 returns-else-lot-eq-REDUCED c =

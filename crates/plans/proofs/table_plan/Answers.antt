@@ -37,12 +37,11 @@ plan_from-requires c =
 
 pub returns-in-Refused : goal.returns-in-Refused
 returns-in-Refused c =
-    let at = c in
     c.unplanned.ensures
     ∙ sym
     (ap planned
-    (plain-refused (asked_paper at.args.lot) _ _
-    (sym at.asked_letter.ensures ∙ ap letter_paper c.in-Refused.is)))
+    (plain-refused (asked_paper c.args.lot) _ _
+    (sym c.asked_letter.ensures ∙ ap letter_paper c.in-Refused.is)))
 
 pub returns-else-lot-eq-REDUCED : goal.returns-else-lot-eq-REDUCED
 returns-else-lot-eq-REDUCED c =

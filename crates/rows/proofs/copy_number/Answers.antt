@@ -14,9 +14,8 @@ bounds-to-at-2 c = simp length-set (omega arith)
 
 pub returns : goal.returns
 returns c =
-    let s = c in
-    let from = s.args.from.now in
-    let i = s.args.i in
+    let from = c.args.from.now in
+    let i = c.args.i in
     let there : i < length (numbers_of from) = omega (arith, numbers-count from) in
     let byte : get_or from (2 * i) 0 < 256 = omega (arith, c.shared_slice_known-1.given (2 * i)) in
-    copied s.args.to.now s.args.at _ _ _ byte (number-at from i there)
+    copied c.args.to.now c.args.at _ _ _ byte (number-at from i there)

@@ -18,21 +18,15 @@ overflow_add-at c =
 
 pub copy_number-requires : goal.copy_number-requires
 copy_number-requires c =
-    let l = c in
-    let a = l in
-    let s = a in
-    lay-there l.loop-i.invariant _ (omega arith)
-    (placed (kind_at s.args.kind) l.loop-i.i c.row_place-from.ensures a.after_key-after.ensures)
-    (any-rowed s.args.kind) s.requires s.args.row.now refl
+    lay-there c.loop-i.invariant _ (omega arith)
+    (placed (kind_at c.args.kind) c.loop-i.i c.row_place-from.ensures c.after_key-after.ensures)
+    (any-rowed c.args.kind) c.requires c.args.row.now refl
 
 pub loop-i-preserved : goal.loop-i-preserved
 loop-i-preserved c =
-    let p = c in
-    let l = p in
-    let a = l in
-    let kind = a.args.kind in
-    lay-next l.loop-i.invariant _ (omega arith)
-    (placed (kind_at kind) l.loop-i.i p.row_place-from.ensures a.after_key-after.ensures) _
+    let kind = c.args.kind in
+    lay-next c.loop-i.invariant _ (omega arith)
+    (placed (kind_at kind) c.loop-i.i c.row_place-from.ensures c.after_key-after.ensures) _
     c.copy_number.ensures
 
 pub returns : goal.returns

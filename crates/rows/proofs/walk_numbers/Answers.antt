@@ -14,21 +14,18 @@ walk_staged-requires c = omega (arith, ap (λ n. (kind_at n).width) c.in-1.is, c
 
 pub returns-in-0 : goal.returns-in-0
 returns-in-0 c =
-    let s = c in
-    walk-as s.args.kind 0 (numbers_of s.args.row.now) (ap kind_at c.in-0.is)
-    (λ e. omega arith) c.end_of_lem.ensures c.entry_numbers.ensures s.requires
+    walk-as c.args.kind 0 (numbers_of c.args.row.now) (ap kind_at c.in-0.is)
+    (λ e. omega arith) c.end_of.ensures c.entry_numbers.ensures c.requires
 
 pub returns-in-1 : goal.returns-in-1
 returns-in-1 c = c.walk_staged.ensures ∙ rw c.in-1.is
 
 pub returns-in-2 : goal.returns-in-2
 returns-in-2 c =
-    let s = c in
-    walk-as s.args.kind 2 (numbers_of s.args.row.now) (ap kind_at c.in-2.is)
-    (λ e. omega arith) c.end_of-in-2.ensures c.entry_numbers-in-2.ensures s.requires
+    walk-as c.args.kind 2 (numbers_of c.args.row.now) (ap kind_at c.in-2.is)
+    (λ e. omega arith) c.end_of-in-2.ensures c.entry_numbers-in-2.ensures c.requires
 
 pub returns-in_default : goal.returns-in_default
 returns-in_default c =
-    let s = c in
-    walk-as s.args.kind 3 (numbers_of s.args.row.now) (last-kind _ c.in_default.in_default-own.rest)
-    (λ e. omega arith) c.end_of-in_default.ensures c.entry_numbers-in_default.ensures s.requires
+    walk-as c.args.kind 3 (numbers_of c.args.row.now) (last-kind _ c.in_default.in_default-own.rest)
+    (λ e. omega arith) c.end_of-in_default.ensures c.entry_numbers-in_default.ensures c.requires

@@ -11,24 +11,20 @@ use Rattle.rows.proofs.walk_row.Goals as goal
 
 pub returns-then-count-row_width : goal.returns-then-count-row_width
 returns-then-count-row_width c =
-    let s = c in
-    let k = kind_at s.args.kind in
-    walk-cut k (key_of k (numbers_of s.args.before.now)) (numbers_of s.args.row.now) (omega arith)
+    let k = kind_at c.args.kind in
+    walk-cut k (key_of k (numbers_of c.args.before.now)) (numbers_of c.args.row.now) (omega arith)
 
 pub returns-then-key_falls : goal.returns-then-key_falls
 returns-then-key_falls c =
-    let s = c in
-    let kind = s.args.kind in
+    let kind = c.args.kind in
     walk-falls (kind_at kind) (any-rowed kind) (key-inside kind)
-    (key_of (kind_at kind) (numbers_of s.args.before.now)) (numbers_of s.args.row.now) (omega arith)
+    (key_of (kind_at kind) (numbers_of c.args.before.now)) (numbers_of c.args.row.now) (omega arith)
     (sym c.key_falls.ensures ∙ c.if-key_falls.true)
 
 pub returns : goal.returns
 returns c =
-    let d = c in
-    let s = d in
-    let kind = s.args.kind in
+    let kind = c.args.kind in
     c.walk_numbers.ensures
     ∙ walk-rises (kind_at kind) (any-rowed kind) (key-inside kind)
-    (key_of (kind_at kind) (numbers_of s.args.before.now)) (numbers_of s.args.row.now) (omega arith)
-    (sym d.key_falls.ensures ∙ d.if-key_falls.false)
+    (key_of (kind_at kind) (numbers_of c.args.before.now)) (numbers_of c.args.row.now) (omega arith)
+    (sym c.key_falls.ensures ∙ c.if-key_falls.false)

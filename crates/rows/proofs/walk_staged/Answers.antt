@@ -14,9 +14,8 @@ use Rattle.rows.proofs.walk_staged.Goals as goal
 
 pub returns-then-row_width-size_at : goal.returns-then-row_width-size_at
 returns-then-row_width-size_at c =
-    let s = c in
     walk-long staged (any-rowed 1) (key-inside 1)
-    (numbers_of s.args.row.now) (omega arith)
+    (numbers_of c.args.row.now) (omega arith)
 
 pub lay-requires : goal.lay-requires
 lay-requires c =
@@ -24,8 +23,6 @@ lay-requires c =
 
 pub returns : goal.returns
 returns c =
-    let l = c in
-    let s = l in
-    c.end_of_lem.ensures ∙ ap end_of c.entry_numbers.ensures
+    c.end_of.ensures ∙ ap end_of c.entry_numbers.ensures
     ∙ walk-laid staged (any-rowed 1) (key-inside 1)
-    (numbers_of s.args.row.now) (replicate 50 0) _ s.requires (omega arith) (omega arith) l.lay.ensures
+    (numbers_of c.args.row.now) (replicate 50 0) _ c.requires (omega arith) (omega arith) c.lay.ensures

@@ -14,41 +14,34 @@ loop-i-init c = (omega arith, omega arith, omega arith, curtailed-start _ _ _)
 
 pub returns-then-have-i : goal.returns-then-have-i
 returns-then-have-i c =
-    let at = c in
-    sym (curtailed-missing at.loop-i.invariant.3 (omega arith) (omega (arith, at.count-have.ensures)))
+    sym (curtailed-missing c.loop-i.invariant.3 (omega arith) (omega (arith, c.count-have.ensures)))
 
 pub returns-then-is_illegal : goal.returns-then-is_illegal
 returns-then-is_illegal c =
-    let at = c in
     sym
-    (curtailed-over at.loop-i.invariant.3 (omega arith) (omega (arith, at.count-have.ensures))
+    (curtailed-over c.loop-i.invariant.3 (omega arith) (omega (arith, c.count-have.ensures))
     c.number-item.ensures.0 (sym c.is_illegal.ensures ∙ c.if-is_illegal.true))
 
 pub stopped_after-requires : goal.stopped_after-requires
 stopped_after-requires c =
-    let at = c in
-    (omega (arith, at.count-have.ensures), omega arith)
+    (omega (arith, c.count-have.ensures), omega arith)
 
 pub returns-then-ac-total : goal.returns-then-ac-total
 returns-then-ac-total c =
-    let e = c in
-    let at = e in
     c.stopped_after.ensures
     ∙ sym
-    (curtailed-lost at.loop-i.invariant.3 (omega arith) (omega (arith, at.count-have.ensures))
-    e.number-item.ensures.0 (sym e.is_illegal.ensures ∙ e.if-is_illegal.false)
+    (curtailed-lost c.loop-i.invariant.3 (omega arith) (omega (arith, c.count-have.ensures))
+    c.number-item.ensures.0 (sym c.is_illegal.ensures ∙ c.if-is_illegal.false)
     c.if-ac-total.true)
 
 pub loop-i-preserved : goal.loop-i-preserved
-loop-i-preserved c =
-    let e = c in
-    let at = e in (
-      omega arith,
-      omega arith,
-      omega arith,
-      curtailed-goes at.loop-i.invariant.3 (omega arith) (omega (arith, at.count-have.ensures))
-          e.number-item.ensures.0 (sym e.is_illegal.ensures ∙ e.if-is_illegal.false) (omega arith),
-    )
+loop-i-preserved c = (
+  omega arith,
+  omega arith,
+  omega arith,
+  curtailed-goes c.loop-i.invariant.3 (omega arith) (omega (arith, c.count-have.ensures))
+      c.number-item.ensures.0 (sym c.is_illegal.ensures ∙ c.if-is_illegal.false) (omega arith),
+)
 
 pub stopped_after-requires-2 : goal.stopped_after-requires-2
 stopped_after-requires-2 c = (omega (arith, c.count-have.ensures), omega arith)

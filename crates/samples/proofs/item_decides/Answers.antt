@@ -18,19 +18,17 @@ returns-then-on_accept_line c =
 pub returns-then-on_reject_line : goal.returns-then-on_reject_line
 unfolding item_decides
 returns-then-on_reject_line c =
-    let b = c in
     rw (
-      lt-ltb _ _ b.if-plan-n.false,
-      sym b.on_accept_line.ensures ∙ b.if-on_accept_line.false,
+      lt-ltb _ _ c.if-plan-n.false,
+      sym c.on_accept_line.ensures ∙ c.if-on_accept_line.false,
       sym c.on_reject_line.ensures ∙ c.if-on_reject_line.true,
     )
 
 pub returns : goal.returns
 unfolding item_decides
 returns c =
-    let b = c in
     rw (
-      lt-ltb _ _ b.if-plan-n.false,
-      sym b.on_accept_line.ensures ∙ b.if-on_accept_line.false,
+      lt-ltb _ _ c.if-plan-n.false,
+      sym c.on_accept_line.ensures ∙ c.if-on_accept_line.false,
       sym c.on_reject_line.ensures ∙ c.if-on_reject_line.false,
     )

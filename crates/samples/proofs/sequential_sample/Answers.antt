@@ -22,22 +22,19 @@ returns-then-x-gt1 c =
 
 pub returns-in-Decides : goal.returns-in-Decides
 returns-in-Decides c =
-    let d = c in
-    let n = d in
-    let so = sym d.item_decides.ensures ∙ ap decision_paper c.in-Decides.is in
-    let at = n.loop-i.invariant.3 in
+    let so = sym c.item_decides.ensures ∙ ap decision_paper c.in-Decides.is in
+    let at = c.loop-i.invariant.3 in
     c.ended_with.ensures
-    ∙ sym (sequential-decides at (omega arith) n.number-x.ensures.0 d.if-x-gt1.false _ so)
+    ∙ sym (sequential-decides at (omega arith) c.number-x.ensures.0 c.if-x-gt1.false _ so)
 
 pub loop-i-preserved : goal.loop-i-preserved
 loop-i-preserved c =
-    let e = c in
-    let at = e.loop-i.invariant.3 in
+    let at = c.loop-i.invariant.3 in
     let goes = sym c.item_decides.ensures ∙ ap decision_paper c.in-GoesOn.is in (
       omega arith,
       omega (arith, goes-before _ _ _ goes),
       omega arith,
-      sequential-goes at (omega arith) e.number-x.ensures.0 e.if-x-gt1.false goes,
+      sequential-goes at (omega arith) c.number-x.ensures.0 c.if-x-gt1.false goes,
     )
 
 pub returns : goal.returns

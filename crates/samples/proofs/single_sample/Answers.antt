@@ -48,4 +48,4 @@ returns-in-Over c = judged (goal.at.returns-in-Over c).After-take_items _ c.in-O
 
 pub returns-in-Total : goal.returns-in-Total
 returns-in-Total c =
-    let t = c in judged t _ t.in-Total.is
+    judged (goal.at.returns-in-Total c).After-take_items _ c.in-Total.is

@@ -19,59 +19,45 @@ loop-i-init c = (omega arith, omega arith, omega arith, omega arith, staged-star
 
 -- the stage's size is the plan's
 sized : (c : After-stage_at-stage)
-    → c.Stage-at.result.size
+    → c.stage_at-stage.result.size
     ≡ get_or c.args.plan.sizes c.loop-i.i 0
-sized c = ap (λ (s : Stage). s.size) c.Stage-at.ensures
+sized c = ap (λ (s : Stage). s.size) c.stage_at-stage.ensures
 
 pub returns-in-Missing : goal.returns-in-Missing
 returns-in-Missing c =
-    let k = c in
-    let w = k in
-    let so = sym k.take_items.ensures.0 ∙ ap (taken_paper _) c.in-Missing.is in
-    sym (staged-missing w.loop-i.invariant.4 (omega arith) (sized w) so)
+    let so = sym c.take_items.ensures.0 ∙ ap (taken_paper _) c.in-Missing.is in
+    sym (staged-missing c.loop-i.invariant.4 (omega arith) (sized (goal.at.returns-in-Missing c).After-stage_at-stage) so)
 
 pub returns-in-Over : goal.returns-in-Over
 returns-in-Over c =
-    let k = c in
-    let w = k in
-    let so = sym k.take_items.ensures.0 ∙ ap (taken_paper _) c.in-Over.is in
-    sym (staged-over w.loop-i.invariant.4 (omega arith) (sized w) so)
+    let so = sym c.take_items.ensures.0 ∙ ap (taken_paper _) c.in-Over.is in
+    sym (staged-over c.loop-i.invariant.4 (omega arith) (sized (goal.at.returns-in-Over c).After-stage_at-stage) so)
 
 pub ended_with-requires : goal.ended_with-requires
 ended_with-requires c =
-    let t = c in
-    let k = t in
-    let took = sym k.take_items.ensures.0 ∙ ap (taken_paper _) t.in-Total.is in
+    let took = sym c.take_items.ensures.0 ∙ ap (taken_paper _) c.in-Total.is in
     taken-there _ _ _ _ _ _ _ (omega arith) took
 
 pub returns-in-Decides : goal.returns-in-Decides
 returns-in-Decides c =
-    let d = c in
-    let t = d in
-    let k = t in
-    let w = k in
-    let took = sym k.take_items.ensures.0 ∙ ap (taken_paper _) t.in-Total.is in
+    let took = sym c.take_items.ensures.0 ∙ ap (taken_paper _) c.in-Total.is in
     let so =
-    ap (λ (s : Stage). stage_decides s t.in-Total.t) (sym w.Stage-at.ensures)
-    ∙ sym d.stage_decides.ensures ∙ ap decision_paper c.in-Decides.is in
+    ap (λ (s : Stage). stage_decides s c.in-Total.t) (sym c.stage_at-stage.ensures)
+    ∙ sym c.stage_decides.ensures ∙ ap decision_paper c.in-Decides.is in
     c.ended_with.ensures
-    ∙ sym (staged-decides w.loop-i.invariant.4 (omega arith) (sized w) took _ so)
+    ∙ sym (staged-decides c.loop-i.invariant.4 (omega arith) (sized (goal.at.returns-in-Decides c).After-stage_at-stage) took _ so)
 
 pub loop-i-preserved : goal.loop-i-preserved
 loop-i-preserved c =
-    let d = c in
-    let t = d in
-    let k = t in
-    let w = k in
-    let took = sym k.take_items.ensures.0 ∙ ap (taken_paper _) t.in-Total.is in
+    let took = sym c.take_items.ensures.0 ∙ ap (taken_paper _) c.in-Total.is in
     let goes =
-    ap (λ (s : Stage). stage_decides s t.in-Total.t) (sym w.Stage-at.ensures)
-    ∙ sym d.stage_decides.ensures ∙ ap decision_paper c.in-GoesOn.is in (
+    ap (λ (s : Stage). stage_decides s c.in-Total.t) (sym c.stage_at-stage.ensures)
+    ∙ sym c.stage_decides.ensures ∙ ap decision_paper c.in-GoesOn.is in (
       omega arith,
       taken-there _ _ _ _ _ _ _ (omega arith) took,
       omega arith,
-      omega (arith, k.take_items.ensures.1, ap taken_total t.in-Total.is),
-      staged-goes w.loop-i.invariant.4 (omega arith) (sized w) took goes,
+      omega (arith, c.take_items.ensures.1, ap taken_total c.in-Total.is),
+      staged-goes c.loop-i.invariant.4 (omega arith) (sized (goal.at.loop-i-preserved c).After-stage_at-stage) took goes,
     )
 
 pub returns : goal.returns

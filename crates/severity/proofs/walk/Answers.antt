@@ -17,9 +17,8 @@ returns-in-Refused c =
 
 pub loop-i-preserved : goal.loop-i-preserved
 loop-i-preserved c =
-    let b = c in
-    let q = met stepped_paper b.in-Given.is b.step_byte-answer.ensures in
-    let inv = b.loop-i.invariant in
+    let q = met stepped_paper c.in-Given.is c.step_byte-answer.ensures in
+    let inv = c.loop-i.invariant in
     let a = from-given _ _ _ _ _ _ inv.reached q in
     elim c.if-i-out.branch [
       | then-i-out w ↦ record {

@@ -7,8 +7,7 @@ use Rattle.entry.proofs.keeping.sequential_rule.Goals as goal
 
 pub returns-then-i-eq7 : goal.returns-then-i-eq7
 returns-then-i-eq7 c =
-    let a = c in
-    let e = numbers_of a.args.e.now in
+    let e = numbers_of c.args.e.now in
     let q = c.if-i-eq7.true in
     c.at_fits.ensures
     ∙ (rw (
@@ -17,9 +16,8 @@ returns-then-i-eq7 c =
       c.number16-g.ensures,
       c.number16-nt.ensures,
     ))
-    ∙ sym (sequential-at e a.args.i a.args.x a.requires q)
+    ∙ sym (sequential-at e c.args.i c.args.x c.requires q)
 
 pub returns : goal.returns
 returns c =
-    let a = c in
-    sym (sequential-free (numbers_of a.args.e.now) a.args.i _ a.requires c.if-i-eq7.false)
+    sym (sequential-free (numbers_of c.args.e.now) c.args.i _ c.requires c.if-i-eq7.false)

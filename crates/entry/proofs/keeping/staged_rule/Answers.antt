@@ -8,17 +8,15 @@ use Rattle.entry.proofs.keeping.staged_rule.Goals as goal
 
 pub returns-then-i-lt4 : goal.returns-then-i-lt4
 returns-then-i-lt4 c =
-    let a = c in
-    sym (staged-free (numbers_of a.args.e.now) a.args.i _ a.requires c.if-i-lt4.true)
+    sym (staged-free (numbers_of c.args.e.now) c.args.i _ c.requires c.if-i-lt4.true)
 
 pub returns : goal.returns
 returns c =
-    let a = c in
-    let e = numbers_of a.args.e.now in
+    let e = numbers_of c.args.e.now in
     c.staged_number.ensures
     ∙ (rw (
       c.number16-m.ensures,
       c.number16-two.ensures,
       c.number16-one.ensures,
     ))
-    ∙ sym (staged-at e a.args.i a.args.x a.requires (omega arith))
+    ∙ sym (staged-at e c.args.i c.args.x c.requires (omega arith))

@@ -6,8 +6,7 @@ use mathlib.Core.Bool.{false}
 use borrow.Author.Tests.{eq-eqb, ne_eqb}
 use lib.Dec.{eqb}
 use Rattle.rules.specs.Writing.{left_out}
-use Rattle.writing.proofs.left_out.Statement.{statement}
-use Rattle.writing.proofs.left_out.Tie as tie
+use Rattle.writing.proofs.left_out.Goals as goal
 
 module _ (kind n : ℕ) where
   at-fifth : kind ≡ 4 → eqb n 0 ≡ left_out kind n
@@ -16,5 +15,8 @@ module _ (kind n : ℕ) where
   elsewhere : (kind ≡ 4 → ⊥) → false ≡ left_out kind n
   elsewhere e = rw (ne_eqb kind 4 e)
 
-pub left-out-spec : {M : Type 1} → statement M
-left-out-spec = tie.close (tie.spec (λ c. search at-fifth) (λ c. search elsewhere))
+pub returns-then-kind-eq-SIGMA : goal.returns-then-kind-eq-SIGMA
+returns-then-kind-eq-SIGMA c = search at-fifth
+
+pub returns : goal.returns
+returns c = search elsewhere

@@ -8,8 +8,7 @@ use lib.ListN.{get_or}
 use Rattle.entry.proofs.AnyKind.{None}
 use Rattle.writing.specs.Paper.{lists}
 use borrow.Author.Rules.{rules}
-use Rattle.writing.proofs.list_of.Statement.{statement}
-use Rattle.writing.proofs.list_of.Tie as tie
+use Rattle.writing.proofs.list_of.Goals as goal
 
 -- the last of five
 last : (a b c d e : List ℕ) (n : ℕ) → n < 5 → None 4 n → e ≡ get_or (lists a b c d e) n []
@@ -21,10 +20,5 @@ last a b c d e n l h =
     let four : n ≡ 4 = omega arith in
     rw four
 
-returns-5 : tie.Need-returns-5
-returns-5 c = last _ _ _ _ _ c.before.args.kind c.before.requires c.match.rest
-
-pub list-of-spec : {M : Type 1} → statement M
-list-of-spec =
-    tie.close
-    (tie.spec (λ c. search rules) (λ c. search rules) (λ c. search rules) (λ c. search rules) returns-5)
+pub returns-in_default : goal.returns-in_default
+returns-in_default c = last _ _ _ _ _ c.args.kind c.requires c.in_default.in_default-own.rest

@@ -1,0 +1,19 @@
+-- `writing::lay_lists` meets its contract.
+-- Assumes nothing.
+use Prim.Native.Nat.{ℕ, ◌+◌, ◌-◌}
+use mathlib.Core.Path.{subst, sym}
+use mathlib.Core.List.{List}
+use native.Mathlib.Omega.{arith}
+use lib.ListN.{length}
+use Rattle.rules.specs.Book.{kinds, kind_at}
+use Rattle.rules.specs.Writing.{Rows, lent_rows}
+use Rattle.writing.specs.Paper.{lists, rows_of, SectionLayable, SectionLaid, LayingLists}
+use Rattle.writing.proofs.Laying.{sections-open, section-layable, section-next, sections-end}
+use borrow.Author.Rules.{rules}
+use Rattle.writing.proofs.lay_lists.Given as goal
+
+abbrev pub invariant-loop-kind : goal.invariant-loop-kind
+invariant-loop-kind l = LayingLists (lent_rows (lists l.reduced l.staged l.sequential l.variables l.sigma)) l.initial.out l.kind l.at l.out
+
+abbrev pub decreases-loop-kind : goal.decreases-loop-kind
+decreases-loop-kind l = length kinds - l.kind
