@@ -4,5 +4,11 @@
 fn main(rt: HostRuntime) {
     let mut input = [0u8; 7];
     let mut output = [0u8; 100];
-    lotstream::run(&rt, &mut rt.stdin(), &mut rt.stdout(), &mut input, &mut output);
+    lotstream::run(
+        &rt,
+        &mut rt.stdin(),
+        &mut rt.stdout(),
+        &mut input,
+        &mut output,
+    );
 }

@@ -2,11 +2,14 @@
 // where the last one is used up, and its lines are put into the output.
 #![tactic(auto)]
 
-ghost use Rattle.std.specs.Prelude.{◌+◌, ◌<◌, ◌≤◌, ◌≡◌, length, pos, OnErr, IfOk, int_lt};
+ghost use Rattle.std.specs.Prelude.{◌+◌, ◌<◌, ◌≤◌, ◌≡◌, length, pos, OnErr, IfOk, ◌<ℤ◌};
 ghost use Rattle.std.specs.Io.{ReadsAtMost};
 ghost use Rattle.lottexts.specs.Printing.{line_room};
 ghost use Rattle.lotstream.specs.Turns.{PutAfter, Logs, Opened, Written, Taken, Got, LastPut};
 ghost use Rattle.lotstream.specs.Runs.{least_room, scene, Fits, Turned, Runs};
+
+#[cfg(test)]
+mod tests;
 
 use lotlines::{LINE, State};
 use std::io::{Read, Result, Write};
@@ -185,7 +188,7 @@ fn take_piece(turn: Turn, got: isize, input: &[u8]) -> Turn
 fn count_read<E: Eprint>(rt: &E, read: Result<usize>, input: &[u8]) -> isize
     requires { ReadsAtMost read input.now }
     ensures ok { IfOk read (λ n. result ≡ pos n) }
-    ensures err { OnErr read (int_lt result (pos 0)) }
+    ensures err { OnErr read (result <ℤ pos 0) }
 {
     match read {
         Ok(n) => n as isize,
@@ -230,7 +233,8 @@ fn next_turn<R: Read, W: Write, E: Eprint>(
         return sent;
     }
     let got = next_piece(rt, reader, sent, input);
-    if got.failed {
+    let cut = got.failed;
+    if cut {
         return got;
     }
     if got.over {
