@@ -22,7 +22,7 @@ use book::{BookAnswer, Found};
 use entry::{SequentialPlan, SidesPlan, StagedPlan, VariablesPlan};
 use plans::{Asked, LetterAnswer, NO_PLAN, Outcome, REDUCED, SinglePlanned};
 
-#[derive(Drop)]
+#[derive(Clone, Copy)]
 pub struct Refusal {
     pub number: u8,
     pub place: usize,
@@ -42,7 +42,7 @@ pub fn first_refusal(book: &[u8], number: u8, place: usize) -> Refusal
 }
 
 // What a book supplies to a lot: the lot's Table 1 letter, and the place of the entry under its key.
-#[derive(Drop)]
+#[derive(Clone, Copy)]
 enum Supplied {
     Refused(u8, usize),
     At(u8, usize),
@@ -154,21 +154,21 @@ pub fn curtailed_plan(lot: Asked, book: &[u8]) -> SinglePlanned
 }
 
 // Is there a plan that only a book supplies; beside it the lot's Table 1 letter and the plan, all 0 beside a refusal.
-#[derive(Drop)]
+#[derive(Clone, Copy)]
 pub struct StagedPlanned {
     pub answer: Outcome,
     pub letter: u8,
     pub plan: StagedPlan,
 }
 
-#[derive(Drop)]
+#[derive(Clone, Copy)]
 pub struct SequentialPlanned {
     pub answer: Outcome,
     pub letter: u8,
     pub plan: SequentialPlan,
 }
 
-#[derive(Drop)]
+#[derive(Clone, Copy)]
 pub struct VariablesPlanned {
     pub answer: Outcome,
     pub letter: u8,
@@ -334,7 +334,7 @@ pub fn variables_plan(lot: Asked, book: &[u8]) -> VariablesPlanned
 }
 
 // Is there a plan for two limits; all of it 0 beside a refusal.
-#[derive(Drop)]
+#[derive(Clone, Copy)]
 pub struct SidesPlanned {
     pub answer: Outcome,
     pub plan: SidesPlan,

@@ -44,8 +44,7 @@ module _ (d : After-walk_row-more) where
       → InList k list at (at + 2 * k.width) (d.loop-at.i + 1)
       (d.loop-at.size + d.walk_row-more.result)
   next some =
-      let a = d in
-      list-next k (rowed a.args.kind a.pre) list d.loop-at.invariant
+      list-next k (rowed d.args.kind d.requires) list d.loop-at.invariant
       (omega arith) told
       some
 
@@ -54,15 +53,15 @@ loop-at-init c = list-opens _ (rowed c.args.kind c.requires) _
 
 pub returns-then-more-eq0 : goal.returns-then-more-eq0
 returns-then-more-eq0 c =
-    list-bad _ (rowed c.args.kind c.requires) _ c.loop-at.invariant (omega arith) (told c)
+    list-bad _ (rowed c.args.kind c.requires) _ c.loop-at.invariant (omega arith) (told (goal.at.returns-then-more-eq0 c).After-walk_row-more)
     c.if-more-eq0.true
 
 pub overflow_add-size : goal.overflow_add-size
-overflow_add-size c = let n = next c (omega arith) in omega (arith, n.short, n.within)
+overflow_add-size c = let n = next (goal.at.overflow_add-size c).After-walk_row-more (omega arith) in omega (arith, n.short, n.within)
 
 pub overflow_add-at : goal.overflow_add-at
 overflow_add-at c =
-    let n = next c (omega arith) in
+    let n = next (goal.at.overflow_add-at c).After-walk_row-more (omega arith) in
     omega (arith, n.within, c.row_width-step.ensures.0)
 
 pub loop-at-smaller : goal.loop-at-smaller
@@ -75,7 +74,7 @@ loop-at-smaller c =
 
 pub loop-at-preserved : goal.loop-at-preserved
 loop-at-preserved c =
-    rw c.row_width-step.ensures.0 (next c (omega arith))
+    rw c.row_width-step.ensures.0 (next (goal.at.loop-at-preserved c).After-walk_row-more (omega arith))
 
 pub returns : goal.returns
 returns c =

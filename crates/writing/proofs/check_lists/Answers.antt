@@ -35,30 +35,35 @@ module _ (d : After-check_list) where
 
 pub overflow_add-result : goal.overflow_add-result
 overflow_add-result c =
-    omega (arith, bad-bounded (lent c) (inv c) (omega arith) (checked c c.in-Bad.is))
+    let d = (goal.at.overflow_add-result c).After-check_list in
+    omega (arith, bad-bounded (lent d) (inv d) (omega arith) (checked d c.in-Bad.is))
 
 pub returns-in-Bad : goal.returns-in-Bad
 returns-in-Bad c =
-    lists-bad (lent c) (inv c) (omega arith) (checked c c.in-Bad.is)
+    let d = (goal.at.returns-in-Bad c).After-check_list in
+    lists-bad (lent d) (inv d) (omega arith) (checked d c.in-Bad.is)
 
 pub overflow_add-before : goal.overflow_add-before
 overflow_add-before c =
-    let b = right-bounded (lent c) (inv c) (omega arith) (checked c c.in-Right.is) in
-    omega (arith, b.0, (inv c).few, (inv c).counted)
+    let d = (goal.at.overflow_add-before c).After-check_list in
+    let b = right-bounded (lent d) (inv d) (omega arith) (checked d c.in-Right.is) in
+    omega (arith, b.0, (inv d).few, (inv d).counted)
 
 pub section_size-size-requires : goal.section_size-size-requires
 section_size-size-requires c =
-    (right-bounded (lent c) (inv c) (omega arith) (checked c c.in-Right.is)).1
+    let d = (goal.at.section_size-size-requires c).After-check_list in
+    (right-bounded (lent d) (inv d) (omega arith) (checked d c.in-Right.is)).1
 
 pub overflow_add-size : goal.overflow_add-size
 overflow_add-size c =
-    let right = c.n-1.given in
-    let next = lists-next (lent c) (inv c) (omega arith) (checked c right.1) c.section_size-size.ensures in
+    let d = (goal.at.overflow_add-size c).After-check_list in
+    let next = lists-next (lent d) (inv d) (omega arith) (checked d c.in-Right.is) c.section_size-size.ensures in
     omega (arith, next.short, next.counted)
 
 pub loop-kind-preserved : goal.loop-kind-preserved
 loop-kind-preserved c =
-    lists-next (lent c) (inv c) (omega arith) (checked c c.in-Right.is) c.section_size-size.ensures
+    let d = (goal.at.loop-kind-preserved c).After-check_list in
+    lists-next (lent d) (inv d) (omega arith) (checked d c.in-Right.is) c.section_size-size.ensures
 
 pub loop-kind-init : goal.loop-kind-init
 loop-kind-init c = lists-open _

@@ -50,13 +50,16 @@ module _ (d : After-list_of-list) where
 
 pub loop-kind-preserved : goal.loop-kind-preserved
 loop-kind-preserved c =
-    laid c c.lay_section-at.ensures
+    laid (goal.at.loop-kind-preserved c).After-list_of-list c.lay_section-at.ensures
 
 pub loop-kind-init : goal.loop-kind-init
 loop-kind-init c = sections-open _ _ c.requires
 
 pub lay_section-at-requires : goal.lay_section-at-requires
-lay_section-at-requires c = (omega arith, layable c)
+lay_section-at-requires c = (omega arith, layable (goal.at.lay_section-at-requires c).After-list_of-list)
 
 pub shape_of-out : goal.shape_of-out
 shape_of-out c = c.loop-kind.invariant.rest.long
+
+pub returns : goal.returns
+returns c = sections-end _ _ c.requires c.loop-kind.invariant (omega arith)

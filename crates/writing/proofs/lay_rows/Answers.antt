@@ -30,8 +30,7 @@ module _ (d : After-size_at-to) where
 
   abbrev kept : Rowed k
   kept =
-      let a = d in
-      rowed a.args.kind a.pre.0
+      rowed d.args.kind d.requires.0
 
   rest : take (length list - from) (drop from list) ≡ drop from list
   rest = take_all (length list - from) (drop from list) (omega (arith, length-drop from list))
@@ -48,37 +47,40 @@ loop-from-init c =
 
 pub overflow_add-to : goal.overflow_add-to
 overflow_add-to c =
+    let d = (goal.at.overflow_add-to c).After-size_at-to in
     let l = c.loop-from in
-    let near = row-near (k c) (kept c) (list c) l.invariant (omega arith) in
+    let near = row-near (k d) (kept d) (list d) l.invariant (omega arith) in
     omega (
       arith,
-      size c,
-      row-size (k c) (kept c) (list c) l.invariant (omega arith),
+      size d,
+      row-size (k d) (kept d) (list d) l.invariant (omega arith),
       near,
-      numbers-low l.out-1,
+      numbers-low l.out,
       l.invariant.rest.long,
     )
 
 pub overflow_add-from : goal.overflow_add-from
 overflow_add-from c =
-    omega (arith, there c, c.row_width-step.ensures.0)
+    omega (arith, there (goal.at.overflow_add-from c).After-size_at-to, c.row_width-step.ensures.0)
 
 pub loop-from-smaller : goal.loop-from-smaller
 loop-from-smaller c =
+    let d = (goal.at.loop-from-smaller c).After-size_at-to in
     omega (
       arith,
-      there c,
-      (kept c).wide,
+      there d,
+      (kept d).wide,
       c.row_width-step.ensures.0,
     )
 
 pub loop-from-preserved : goal.loop-from-preserved
 loop-from-preserved c =
+    let d = (goal.at.loop-from-preserved c).After-size_at-to in
     let l = c.loop-from in
     let laid = c.lay_entry.ensures
-    ∙ ap (λ (b : List ℕ). entry_laid (k c) (take (k c).width (numbers_of b)) l.to l.out-1) (rest c) in
+    ∙ ap (λ (b : List ℕ). entry_laid (k d) (take (k d).width (numbers_of b)) l.to l.out) (rest d) in
     rw c.row_width-step.ensures.0
-    (rows-go-on (k c) (kept c) (list c) l.invariant (omega arith) laid (size c))
+    (rows-go-on (k d) (kept d) (list d) l.invariant (omega arith) laid (size d))
 
 pub returns : goal.returns
 returns c =

@@ -22,27 +22,29 @@ module _ (d : After-check_lists) where
   checked e = subst (λ (r : ListCheck). ListsChecked lent r) e d.check_lists.ensures
 
 pub overflow_mul-size : goal.overflow_mul-size
-overflow_mul-size c = omega (arith, (checked c c.in-Right.is).2)
+overflow_mul-size c = omega (arith, (checked (goal.at.overflow_mul-size c).After-check_lists c.in-Right.is).2)
 
 pub returns-then-out-size : goal.returns-then-out-size
 returns-then-out-size c =
-    let right = c.numbers-1.given in
-    tell-short (lent c) _ right.0.0 _ (checked c right.1) c.if-out-size.true
+    let d = (goal.at.returns-then-out-size c).After-check_lists in
+    tell-short (lent d) _ c.in-Right.field-0 _ (checked d c.in-Right.is) c.if-out-size.true
 
 pub returns-then-size-gt-LARGEST_BOOK : goal.returns-then-size-gt-LARGEST_BOOK
 returns-then-size-gt-LARGEST_BOOK c =
-    let right = c.numbers-1.given in
-    tell-long (lent c) _ right.0.0 _ (checked c right.1) c.if-size-gt-LARGEST_BOOK.true
+    let d = (goal.at.returns-then-size-gt-LARGEST_BOOK c).After-check_lists in
+    tell-long (lent d) _ c.in-Right.field-0 _ (checked d c.in-Right.is) c.if-size-gt-LARGEST_BOOK.true
 
 pub lay_lists-requires : goal.lay_lists-requires
 lay_lists-requires c =
-    let right = c.numbers-1.given in
-    writable (lent c) _ right.0.0 _ (checked c right.1) (omega arith) (omega arith)
+    let d = (goal.at.lay_lists-requires c).After-check_lists in
+    writable (lent d) _ c.in-Right.field-0 _ (checked d c.in-Right.is) (omega arith) (omega arith)
 
 pub returns-in-Bad : goal.returns-in-Bad
-returns-in-Bad c = tell-bad (lent c) _ _ (checked c c.in-Bad.is)
+returns-in-Bad c =
+    let d = (goal.at.returns-in-Bad c).After-check_lists in
+    tell-bad (lent d) _ _ (checked d c.in-Bad.is)
 
 pub returns-else-size-gt-LARGEST_BOOK : goal.returns-else-size-gt-LARGEST_BOOK
 returns-else-size-gt-LARGEST_BOOK c =
-    let right = c.numbers-1.given in
-    tell-written (lent c) _ right.0.0 _ (checked c right.1) (omega arith) (omega arith) c.lay_lists.ensures
+    let d = (goal.at.returns-else-size-gt-LARGEST_BOOK c).After-check_lists in
+    tell-written (lent d) _ c.in-Right.field-0 _ (checked d c.in-Right.is) (omega arith) (omega arith) c.lay_lists.ensures

@@ -14,8 +14,8 @@ use Rattle.choosing.specs.Paper.{without_letter, zero_variables, zero_sides, var
 use Rattle.choosing.specs.Paper.{section_if}
 use Rattle.choosing.proofs.Supplies.{unchecked, given-sound, unlettered-is}
 use borrow.Author.Rules.{rules}
-use Rattle.choosing.proofs.sides_plan.Statement.{statement}
-use Rattle.choosing.proofs.sides_plan.Tie as tie
+use Rattle.choosing.proofs.sides_plan.Goals as goal
+use Rattle.choosing.proofs.sides_plan.Goals.{After-readings_plan-upper}
 
 -- what a look-up promises, without its letter
 alone : (r : VariablesPlanned) (q : Asked) (a : Answer VariablesPlan)
@@ -24,48 +24,43 @@ alone r q a e =
     ap unlettered (beside-answer (without_letter zero_variables) itself (variables_planned r) (lettered q a) e)
     ∙ unlettered-is q a
 
-upper : (p : tie.After-readings-plan) → let a = p.before.before.args in
-    plan_alone p.readings-plan.result ≡ readings_plan (section_if a.known) (asked_paper a.lot) a.book.now
+upper : (p : After-readings_plan-upper) → let a = p.args in
+    plan_alone p.readings_plan-upper.result ≡ readings_plan (section_if a.known) (asked_paper a.lot) a.book.now
 upper p =
-    let a = p.before.before.args in
-    alone p.readings-plan.result (asked_paper a.lot) _ p.readings-plan.ensures
+    let a = p.args in
+    alone p.readings_plan-upper.result (asked_paper a.lot) _ p.readings_plan-upper.ensures
 
-returns : tie.Need-returns
-returns c =
-    let p = c.before.before.before in
-    let a = p.before.before.args in
+pub returns-then-lower-lot : goal.returns-then-lower-lot
+returns-then-lower-lot c =
+    let p = (goal.at.returns-then-lower-lot c).After-readings_plan-upper in
+    let a = p.args in
     let q = asked_paper a.lot in
     let j = section_if a.known in
     c.join.ensures
     ∙ ap (beside zero_sides itself)
     (ap (λ (x : Answer VariablesPlan). join_sides x x) (upper p) ∙ sym (sides-join j q q.column a.book.now)
-    ∙ ap (λ (l : ℕ). sides_plan j q l a.book.now) (sym c.before.if1.true))
+    ∙ ap (λ (l : ℕ). sides_plan j q l a.book.now) (sym c.if-lower-lot.true))
 
 -- a plan that was given tells that the book is sound
-readings-plan-requires-2 : tie.Need-readings-plan-requires-2
-readings-plan-requires-2 c κs e =
-    let p = c.before.before.before in
-    let a = p.before.before.args in
-    given-sound (section_if a.known) (asked_paper a.lot) a.book.now (plan_alone p.readings-plan.result)
-    (upper p) (sym c.is-given.ensures ∙ e)
+pub readings_plan-requires : goal.readings_plan-requires
+readings_plan-requires c κs e =
+    let p = (goal.at.readings_plan-requires c).After-readings_plan-upper in
+    let a = p.args in
+    given-sound (section_if a.known) (asked_paper a.lot) a.book.now (plan_alone p.readings_plan-upper.result)
+    (upper p) (sym c.is_given.ensures ∙ e)
 
-returns-2 : tie.Need-returns-2
-returns-2 c =
-    let r = c.before in
-    let p = r.before.before.before.before in
-    let a = p.before.before.args in
+pub returns : goal.returns
+returns c =
+    let a = c.args in
     let q = asked_paper a.lot in
     let j = section_if a.known in
     let under = under_column q a.lower in
-    let l = alone r.readings-plan2.result under (readings_plan j under a.book.now) r.readings-plan2.ensures
+    let l = alone c.readings_plan.result under (readings_plan j under a.book.now) c.readings_plan.ensures
     in
-    c.join2.ensures
+    c.join-2.ensures
     ∙ ap (beside zero_sides itself)
-    (ap (λ (x : Answer VariablesPlan). join_sides x (plan_alone r.readings-plan2.result)) (upper p)
+    (ap (λ (x : Answer VariablesPlan). join_sides x (plan_alone c.readings_plan.result)) (upper (goal.at.returns c).After-readings_plan-upper)
     ∙ ap (join_sides (readings_plan j q a.book.now)) l ∙ sym (sides-join j q a.lower a.book.now))
 
-pub sides-plan-spec : {M : Type 1} → statement M
-sides-plan-spec =
-    tie.close
-    (tie.spec (λ c κs. unchecked _) (λ c κs. search rules) returns (λ c κs. search rules) readings-plan-requires-2
-    (λ c κs. search rules) returns-2)
+pub readings_plan-upper-requires : goal.readings_plan-upper-requires
+readings_plan-upper-requires c = unchecked _

@@ -1,0 +1,7 @@
+-- `choosing::sides_unplanned` meets its contract.
+-- Assumes nothing.
+use borrow.Author.Rules.{rules}
+use Rattle.choosing.proofs.sides_unplanned.Goals as goal
+
+pub returns : goal.returns
+returns c = rw c.no_sides.ensures
