@@ -44,7 +44,7 @@ pub fn close_curtailed(old: Supply, lot: Offered, book: &[u8], sample: &[u8]) ->
     closing::unclosed(first.number, first.place)
 }
 
-#[derive(Drop)]
+#[derive(Clone, Copy)]
 pub struct StagedClosed {
     pub answer: ClosedAnswer,
     pub plan: StagedPlan,

@@ -21,13 +21,13 @@ use severity::Origin;
 use supply::Supply;
 
 // All of the plan is 0 beside a refusal.
-#[derive(Drop)]
+#[derive(Clone, Copy)]
 pub struct FractionalJudged {
     pub answer: VerdictAnswer,
     pub plan: FractionalPlan,
 }
 
-#[derive(Drop)]
+#[derive(Clone, Copy)]
 pub struct FractionalClosed {
     pub answer: ClosedAnswer,
     pub plan: FractionalPlan,

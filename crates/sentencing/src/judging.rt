@@ -64,7 +64,7 @@ pub fn judge_curtailed(lot: Asked, book: &[u8], sample: &[u8]) -> SingleJudged
     }
 }
 
-#[derive(Drop)]
+#[derive(Clone, Copy)]
 pub struct StagedJudged {
     pub answer: VerdictAnswer,
     pub plan: StagedPlan,
@@ -103,7 +103,7 @@ pub fn judge_staged(lot: Asked, book: &[u8], sample: &[u8]) -> StagedJudged
     }
 }
 
-#[derive(Drop)]
+#[derive(Clone, Copy)]
 pub struct SequentialJudged {
     pub answer: VerdictAnswer,
     pub plan: SequentialPlan,

@@ -1,3 +1,5 @@
+#![tactic(auto)]
+
 // What the bench calls: which plan, does the lot pass, what next.
 ghost use Rattle.std.specs.Prelude.{◌≡◌};
 ghost use Rattle.rules.specs.History.{ours};

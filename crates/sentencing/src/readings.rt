@@ -15,13 +15,13 @@ use entry::{SidesPlan, VariablesPlan};
 use gauge::{Sides, Spread};
 use plans::{Asked, Outcome, VerdictAnswer};
 
-#[derive(Drop)]
+#[derive(Clone, Copy)]
 pub struct VariablesJudged {
     pub answer: VerdictAnswer,
     pub plan: VariablesPlan,
 }
 
-#[derive(Drop)]
+#[derive(Clone, Copy)]
 pub struct SidesJudged {
     pub answer: VerdictAnswer,
     pub plan: SidesPlan,

@@ -2,7 +2,6 @@
 -- Assumes nothing.
 use Rattle.rules.specs.Refusals.{given}
 use Rattle.book.proofs.PlaceLaws.{by-pass}
-use borrow.Author.Rules.{rules}
 use Rattle.book.proofs.check_book.Goals as goal
 
 pub returns-in-Broken : goal.returns-in-Broken

@@ -1,20 +1,16 @@
 -- `book::check_section` meets its contract.
 -- Assumes nothing.
-use Prim.Native.Nat.{◌-◌}
 use mathlib.Core.Path.{sym, ap, ◌∙◌}
 use native.Mathlib.Omega.{arith}
 use lib.ListN.{drop}
 use Rattle.rules.specs.Numbers.{numbers_of}
-use Rattle.rules.specs.Book.{kind_at}
 use Rattle.rules.proofs.Numbers.{numbers-low}
 use Rattle.rules.proofs.Walks.{place-entry}
 use Rattle.rules.proofs.Steps.{section-short}
-use Rattle.entry.specs.Paper.{walk_paper, key_paper}
+use Rattle.entry.specs.Paper.{walk_paper}
 use Rattle.entry.proofs.AnyKind.{entry-deep}
-use Rattle.book.specs.Paper.{InSection}
 use Rattle.book.proofs.Loops.{ends-near, broken-near, read-short, section-opens, section-next, section-broken}
 use Rattle.book.proofs.Loops.{section-shorts, section-done}
-use borrow.Author.Rules.{rules}
 use Rattle.book.proofs.check_section.Goals as goal
 
 pub returns-then-count-eq0 : goal.returns-then-count-eq0

@@ -15,7 +15,6 @@ use Rattle.book.specs.declared.Stretch.TheVariants.{Ends}
 use Rattle.book.proofs.Loops.{in-near, ends-of, broken-of, short-of}
 use Rattle.book.proofs.Fifth.{inside, whole-opens, whole-absent, whole-none, whole-next, whole-broken}
 use Rattle.book.proofs.Fifth.{whole-shorts, whole-done}
-use borrow.Author.Rules.{rules}
 use Rattle.book.proofs.check_sections.Goals as goal
 use Rattle.book.proofs.check_sections.Goals.{After-check_section}
 use Rattle.entry.specs.declared.Key.{Key}

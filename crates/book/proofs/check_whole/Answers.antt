@@ -12,7 +12,6 @@ use Rattle.rules.proofs.Numbers.{numbers-low}
 use Rattle.rules.proofs.Walks.{place-ends, place-broken}
 use Rattle.rules.proofs.Steps.{place-all, book-long, book-is, after-end, at-end, at-broken, at-short}
 use Rattle.book.proofs.Loops.{ends-of, broken-of, short-of}
-use borrow.Author.Rules.{rules}
 use Rattle.book.proofs.check_whole.Goals as goal
 
 -- 12 first

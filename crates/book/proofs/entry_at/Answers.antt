@@ -4,7 +4,6 @@ use mathlib.Core.Path.{◌∙◌}
 use native.Mathlib.Omega.{arith}
 use Rattle.rules.proofs.Numbers.{numbers-low, numbers-part}
 use Rattle.book.proofs.Loops.{numbers-between}
-use borrow.Author.Rules.{rules}
 use Rattle.book.proofs.entry_at.Goals as goal
 
 pub returns : goal.returns

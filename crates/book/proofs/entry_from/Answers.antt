@@ -1,12 +1,7 @@
 -- `book::entry_from` meets its contract.
 -- Assumes nothing.
-use Prim.Native.Nat.{◌-◌}
 use native.Mathlib.Omega.{arith}
-use Rattle.rules.specs.Numbers.{numbers_of}
-use Rattle.rules.specs.Book.{kind_at}
-use Rattle.book.specs.Paper.{AtEntry}
 use Rattle.book.proofs.Laid.{entries-open, entries-next, entries-done}
-use borrow.Author.Rules.{rules}
 use Rattle.book.proofs.entry_from.Goals as goal
 
 pub loop-i-preserved : goal.loop-i-preserved

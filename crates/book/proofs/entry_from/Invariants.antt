@@ -1,12 +1,9 @@
 -- `book::entry_from` meets its contract.
 -- Assumes nothing.
 use Prim.Native.Nat.{◌-◌}
-use native.Mathlib.Omega.{arith}
 use Rattle.rules.specs.Numbers.{numbers_of}
 use Rattle.rules.specs.Book.{kind_at}
 use Rattle.book.specs.Paper.{AtEntry}
-use Rattle.book.proofs.Laid.{entries-open, entries-next, entries-done}
-use borrow.Author.Rules.{rules}
 use Rattle.book.proofs.entry_from.Given as goal
 
 abbrev pub invariant-loop-i : goal.invariant-loop-i

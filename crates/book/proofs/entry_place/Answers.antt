@@ -6,7 +6,6 @@ use lib.ListN.{drop}
 use Rattle.rules.specs.Numbers.{numbers_of}
 use Rattle.rules.specs.Book.{kind_at}
 use Rattle.rules.specs.Layout.{entry_at}
-use borrow.Author.Rules.{rules}
 use Rattle.book.proofs.entry_place.Goals as goal
 
 pub returns : goal.returns

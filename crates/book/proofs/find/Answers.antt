@@ -5,7 +5,6 @@ use borrow.Author.Tests.{eq-eqb, ne_eqb}
 use Rattle.rules.specs.Refusals.{refused, given}
 use Rattle.book.specs.Places.{from_place, place_held}
 use Rattle.book.proofs.PlaceLaws.{by-pass}
-use borrow.Author.Rules.{rules}
 use Rattle.book.proofs.find.Goals as goal
 
 pub returns-then-held-eq0 : goal.returns-then-held-eq0

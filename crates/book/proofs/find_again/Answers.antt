@@ -10,7 +10,6 @@ use Rattle.rules.specs.Book.{kind_at, key_for}
 use Rattle.rules.proofs.Numbers.{numbers-low, numbers-part}
 use Rattle.book.specs.Places.{section_place}
 use Rattle.book.proofs.Laid.{laid-none, laid-past, laid-unseen, laid-seen, laid-near}
-use borrow.Author.Rules.{rules}
 use Rattle.book.proofs.find_again.Goals as goal
 use Rattle.book.proofs.find_again.Goals.{After-seek-seen}
 

@@ -4,7 +4,6 @@ use mathlib.Core.Path.{sym, ◌∙◌}
 use native.Mathlib.Omega.{arith}
 use borrow.Author.Tests.{eq-eqb, ne_eqb}
 use Rattle.rules.proofs.Numbers.{numbers-low, numbers-part}
-use borrow.Author.Rules.{rules}
 use Rattle.book.proofs.first_under.Goals as goal
 
 pub returns-then-seen-ne0 : goal.returns-then-seen-ne0

@@ -1,7 +1,6 @@
 -- `book::held_past` meets its contract.
 -- Assumes nothing.
 use borrow.Author.Tests.{eq-eqb, ne_eqb}
-use borrow.Author.Rules.{rules}
 use Rattle.book.proofs.held_past.Goals as goal
 
 pub returns-then-kind-asked : goal.returns-then-kind-asked

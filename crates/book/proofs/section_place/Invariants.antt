@@ -1,11 +1,8 @@
 -- `book::section_place` meets its contract.
 -- Assumes nothing.
 use Prim.Native.Nat.{◌-◌}
-use native.Mathlib.Omega.{arith}
 use Rattle.rules.specs.Numbers.{numbers_of}
 use Rattle.book.specs.Paper.{AtSection}
-use Rattle.book.proofs.Laid.{sections-open, sections-next, sections-done, sections-all}
-use borrow.Author.Rules.{rules}
 use Rattle.book.proofs.section_place.Given as goal
 
 abbrev pub invariant-loop-kind : goal.invariant-loop-kind

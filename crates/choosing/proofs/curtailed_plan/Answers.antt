@@ -3,7 +3,6 @@
 use mathlib.Core.Path.{sym, ap, ◌∙◌}
 use Rattle.rules.proofs.Demands.Curtailed.{curtailed-as-single}
 use Rattle.plans.specs.Paper.{asked_paper, beside, itself, zero_plan}
-use borrow.Author.Rules.{rules}
 use Rattle.choosing.proofs.curtailed_plan.Goals as goal
 
 pub returns : goal.returns

@@ -2,7 +2,6 @@
 -- Assumes nothing.
 use mathlib.Core.Path.{◌∙◌}
 use Rattle.book.proofs.Laid.{laid-held}
-use borrow.Author.Rules.{rules}
 use Rattle.choosing.proofs.find_place.Goals as goal
 
 pub returns-then-checked : goal.returns-then-checked

@@ -4,7 +4,6 @@ use mathlib.Core.Path.{sym, ap, ◌∙◌}
 use Rattle.rules.specs.Book.{check_book}
 use Rattle.book.specs.Paper.{book_paper}
 use Rattle.rules.proofs.EntryLaws.{broken-first, sound-first}
-use borrow.Author.Rules.{rules}
 use Rattle.choosing.proofs.first_refusal.Goals as goal
 
 pub returns-in-Refused : goal.returns-in-Refused

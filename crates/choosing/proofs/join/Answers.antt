@@ -1,6 +1,5 @@
 -- `choosing::join` meets its contract.
 -- Assumes nothing.
-use borrow.Author.Rules.{rules}
 use borrow.Author.Tests.{lt-ltb, le-ltb}
 use Rattle.choosing.proofs.join.Goals as goal
 

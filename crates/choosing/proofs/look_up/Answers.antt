@@ -4,7 +4,6 @@ use mathlib.Core.Path.{sym, ap, ◌∙◌}
 use Rattle.plans.specs.Paper.{asked_paper, letter_paper}
 use Rattle.book.specs.Paper.{found_paper}
 use Rattle.choosing.proofs.Supplies.{unasked, looked-up}
-use borrow.Author.Rules.{rules}
 use Rattle.choosing.proofs.look_up.Goals as goal
 
 pub returns-in-Refused : goal.returns-in-Refused

@@ -16,7 +16,6 @@ use Rattle.plans.specs.Paper.{asked_paper, beside, itself}
 use Rattle.entry.specs.Paper.{variables_paper}
 use Rattle.choosing.specs.Paper.{supplied_paper, place_for, without_letter, zero_variables, section_if}
 use Rattle.choosing.proofs.Supplies.{supplied-near, plan-refused, plan-above, plan-given}
-use borrow.Author.Rules.{rules}
 use Rattle.choosing.proofs.readings_plan.Goals as goal
 use Rattle.choosing.proofs.readings_plan.Goals.{After-variables_at-plan, In-At}
 
@@ -74,7 +73,7 @@ pub returns-then-lot-plan : goal.returns-then-lot-plan
 unfolding readings_plan
 returns-then-lot-plan c =
     let r = (goal.at.returns-then-lot-plan c).After-variables_at-plan in
-    let d = r in
+    let d = (goal.at.returns-then-lot-plan c).In-At in
     let a = d.args in
     c.variables_unplanned-then-lot-plan.ensures
     ∙ ap (beside (without_letter zero_variables) itself)
@@ -98,7 +97,7 @@ pub returns-else-lot-plan : goal.returns-else-lot-plan
 unfolding readings_plan
 returns-else-lot-plan c =
     let r = (goal.at.returns-else-lot-plan c).After-variables_at-plan in
-    let d = r in
+    let d = (goal.at.returns-else-lot-plan c).In-At in
     let a = d.args in
     ap (beside (without_letter zero_variables) itself)
     (plan-given (section_if a.known) (inside a.known) variables_of (λ p. p.n) (asked_paper a.lot)

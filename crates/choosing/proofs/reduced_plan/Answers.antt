@@ -14,7 +14,6 @@ use Rattle.plans.specs.Paper.{asked_paper, beside, itself, zero_plan}
 use Rattle.entry.specs.Paper.{reduced_paper}
 use Rattle.choosing.specs.Paper.{supplied_paper, place_for}
 use Rattle.choosing.proofs.Supplies.{unchecked, supplied-near, not-supplied, reduced-supplied, reduced-given}
-use borrow.Author.Rules.{rules}
 use Rattle.choosing.proofs.reduced_plan.Goals as goal
 use Rattle.choosing.proofs.reduced_plan.Goals.{In-At}
 
@@ -65,8 +64,7 @@ returns-in-At c =
     let a = c.args in
     ap (beside zero_plan itself)
     (reduced-given (asked_paper a.lot) a.book.now known
-    c.requires _ _ (stands
-    c)
+    c.requires _ _ (stands (goal.at.returns-in-At c).In-At)
     (reduced_paper c.reduced_at-held.result)
     (c.reduced_at-held.ensures
     ∙ ap (λ (ws : List ℕ). reduced_of (entry_of reduced_singles ws)) (numbers-part a.book.now _))

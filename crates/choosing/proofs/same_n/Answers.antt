@@ -1,6 +1,5 @@
 -- `choosing::same_n` meets its contract.
 -- Assumes nothing.
-use borrow.Author.Rules.{rules}
 use borrow.Author.Tests.{eq-eqb, ne_eqb}
 use Rattle.choosing.proofs.same_n.Goals as goal
 

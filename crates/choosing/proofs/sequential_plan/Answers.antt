@@ -15,7 +15,6 @@ use Rattle.plans.specs.Paper.{asked_paper, beside, itself}
 use Rattle.entry.specs.Paper.{sequential_paper}
 use Rattle.choosing.specs.Paper.{supplied_paper, place_for, without_letter, zero_sequential}
 use Rattle.choosing.proofs.Supplies.{unchecked, supplied-near, plan-refused, plan-above, plan-given}
-use borrow.Author.Rules.{rules}
 use Rattle.choosing.proofs.sequential_plan.Goals as goal
 use Rattle.choosing.proofs.sequential_plan.Goals.{After-sequential_at-plan, In-At}
 

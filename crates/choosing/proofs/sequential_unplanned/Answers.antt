@@ -1,7 +1,6 @@
 -- `choosing::sequential_unplanned` meets its contract.
 -- Assumes nothing.
 use Rattle.choosing.proofs.Beside.{unplanned-beside}
-use borrow.Author.Rules.{rules}
 use Rattle.choosing.proofs.sequential_unplanned.Goals as goal
 
 pub returns : goal.returns

@@ -13,7 +13,6 @@ use Rattle.choosing.specs.declared.VariablesPlanned.{VariablesPlanned}
 use Rattle.choosing.specs.Paper.{without_letter, zero_variables, zero_sides, variables_planned, unlettered, plan_alone}
 use Rattle.choosing.specs.Paper.{section_if}
 use Rattle.choosing.proofs.Supplies.{unchecked, given-sound, unlettered-is}
-use borrow.Author.Rules.{rules}
 use Rattle.choosing.proofs.sides_plan.Goals as goal
 use Rattle.choosing.proofs.sides_plan.Goals.{After-readings_plan-upper}
 
@@ -43,7 +42,7 @@ returns-then-lower-lot c =
 
 -- a plan that was given tells that the book is sound
 pub readings_plan-requires : goal.readings_plan-requires
-readings_plan-requires c κs e =
+readings_plan-requires c e =
     let p = (goal.at.readings_plan-requires c).After-readings_plan-upper in
     let a = p.args in
     given-sound (section_if a.known) (asked_paper a.lot) a.book.now (plan_alone p.readings_plan-upper.result)

@@ -1,6 +1,5 @@
 -- `choosing::sides_unplanned` meets its contract.
 -- Assumes nothing.
-use borrow.Author.Rules.{rules}
 use Rattle.choosing.proofs.sides_unplanned.Goals as goal
 
 pub returns : goal.returns

@@ -7,7 +7,6 @@ use Rattle.rules.proofs.EntryLaws.{broken-first, sound-first}
 use Rattle.rules.proofs.Demands.Curtailed.{curtailed-as-single}
 use Rattle.plans.specs.Paper.{asked_paper, beside, itself, zero_plan}
 use Rattle.book.specs.Paper.{book_paper}
-use borrow.Author.Rules.{rules}
 use Rattle.choosing.proofs.single_plan.Goals as goal
 use Rattle.choosing.proofs.single_plan.Goals.{Else-lot-eq-REDUCED}
 

@@ -19,7 +19,6 @@ use Rattle.book.proofs.PlaceLaws.{few-stages}
 use Rattle.choosing.specs.Paper.{supplied_paper, place_for, without_letter}
 use Rattle.choosing.proofs.Sizes.{read-few}
 use Rattle.choosing.proofs.Supplies.{unchecked, supplied-near, supplied-at, plan-refused, plan-above, plan-given}
-use borrow.Author.Rules.{rules}
 use Rattle.choosing.proofs.staged_plan.Goals as goal
 use Rattle.choosing.proofs.staged_plan.Goals.{After-staged_at-plan, In-At}
 
@@ -74,8 +73,7 @@ read c =
     let a = c.args in
     alone c
     ∙ few-stages a.lot.severity (letter_of a.lot.size a.lot.level) a.lot.column a.book.now _
-    (supplied-at 1 (asked_paper a.lot) a.book.now known (λ e. given e) _ _ (stands
-    c)).held
+    (supplied-at 1 (asked_paper a.lot) a.book.now known (λ e. given e) _ _ (sym (ap supplied_paper c.in-At.is) ∙ c.look_up.ensures)).held
 
 few : (c : After-staged_at-plan) → c.staged_at-plan.result.stages ≤ 7
 few c =

@@ -1,7 +1,6 @@
 -- `choosing::staged_unplanned` meets its contract.
 -- Assumes nothing.
 use Rattle.choosing.proofs.Beside.{unplanned-beside}
-use borrow.Author.Rules.{rules}
 use Rattle.choosing.proofs.staged_unplanned.Goals as goal
 
 pub returns : goal.returns

@@ -1,10 +1,7 @@
 -- `choosing::total_size` meets its contract.
 -- Assumes nothing.
-use Prim.Native.Nat.{◌-◌, ◌*◌, ◌≤◌}
 use native.Mathlib.Omega.{arith}
-use borrow.Author.Rules.{rules}
-use Rattle.entry.specs.Paper.{staged_paper}
-use Rattle.choosing.proofs.Sizes.{SizedTo, sized-start, sized-next, sized-all}
+use Rattle.choosing.proofs.Sizes.{sized-start, sized-next, sized-all}
 use Rattle.choosing.proofs.total_size.Goals as goal
 
 pub loop-i-init : goal.loop-i-init

@@ -1,10 +1,8 @@
 -- `choosing::total_size` meets its contract.
 -- Assumes nothing.
 use Prim.Native.Nat.{◌-◌, ◌*◌, ◌≤◌}
-use native.Mathlib.Omega.{arith}
-use borrow.Author.Rules.{rules}
 use Rattle.entry.specs.Paper.{staged_paper}
-use Rattle.choosing.proofs.Sizes.{SizedTo, sized-start, sized-next, sized-all}
+use Rattle.choosing.proofs.Sizes.{SizedTo}
 use Rattle.choosing.proofs.total_size.Given as goal
 
 abbrev pub invariant-loop-i : goal.invariant-loop-i

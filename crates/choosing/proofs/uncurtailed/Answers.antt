@@ -4,7 +4,6 @@ use mathlib.Core.Path.{sym, ap, ◌∙◌}
 use Rattle.rules.proofs.Checks.{plain-refused, plain-reduced}
 use Rattle.plans.specs.Paper.{asked_paper, letter_paper, beside, itself, zero_plan}
 use Rattle.choosing.proofs.Supplies.{untabled}
-use borrow.Author.Rules.{rules}
 use Rattle.choosing.proofs.uncurtailed.Goals as goal
 
 pub returns-in-Refused : goal.returns-in-Refused

@@ -1,6 +1,5 @@
 -- `choosing::variables_plan` meets its contract.
 -- Assumes nothing.
-use borrow.Author.Rules.{rules}
 use Rattle.choosing.proofs.Supplies.{unchecked}
 use Rattle.choosing.proofs.variables_plan.Goals as goal
 

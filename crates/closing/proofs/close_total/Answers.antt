@@ -1,5 +1,4 @@
 -- `closing::close_total` meets its contract. Assumes nothing.
-use borrow.Author.Rules.{rules}
 use Rattle.closing.proofs.Closing.{closed-total, closed-out}
 use Rattle.closing.proofs.close_total.Goals as goal
 

@@ -1,5 +1,4 @@
 -- `closing::enter` meets its contract. Assumes nothing.
-use borrow.Author.Rules.{rules}
 use Rattle.closing.proofs.Closing.{enters-refused, enters-given}
 use Rattle.closing.proofs.enter.Goals as goal
 

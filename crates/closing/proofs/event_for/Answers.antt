@@ -1,5 +1,4 @@
 -- `closing::event_for` meets its contract. Assumes nothing.
-use borrow.Author.Rules.{rules}
 use Rattle.closing.proofs.Counting.{original}
 use Rattle.closing.proofs.event_for.Goals as goal
 

@@ -1,6 +1,5 @@
 -- `closing::judge_on_plan` meets its contract. Assumes nothing.
 use mathlib.Core.Path.{sym, ◌∙◌}
-use borrow.Author.Rules.{rules}
 use Rattle.closing.proofs.judge_on_plan.Goals as goal
 
 pub returns-then-exceeds_sample : goal.returns-then-exceeds_sample

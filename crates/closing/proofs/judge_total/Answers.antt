@@ -1,5 +1,4 @@
 -- `closing::judge_total` meets its contract. Assumes nothing.
-use borrow.Author.Rules.{rules}
 use Rattle.closing.proofs.Closing.{total-refused, total-given}
 use Rattle.closing.proofs.judge_total.Goals as goal
 

@@ -1,5 +1,4 @@
 -- `closing::single_event` meets its contract. Assumes nothing.
-use borrow.Author.Rules.{rules}
 use Rattle.closing.proofs.single_event.Goals as goal
 
 pub returns : goal.returns

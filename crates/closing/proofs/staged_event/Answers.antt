@@ -1,5 +1,4 @@
 -- `closing::staged_event` meets its contract. Assumes nothing.
-use borrow.Author.Rules.{rules}
 use Rattle.closing.proofs.staged_event.Goals as goal
 
 pub returns : goal.returns

@@ -1,5 +1,4 @@
 -- `closing::staged_points` meets its contract. Assumes nothing.
-use borrow.Author.Rules.{rules}
 use Rattle.closing.proofs.Counting.{staged-three, staged-zero}
 use Rattle.closing.proofs.staged_points.Goals as goal
 

@@ -1,5 +1,4 @@
 -- `closing::take_single` meets its contract. Assumes nothing.
-use borrow.Author.Rules.{rules}
 use Rattle.rules.specs.Entries.{single_event}
 use Rattle.plans.specs.Paper.{plan_paper, zero_plan}
 use Rattle.severity.specs.Paper.{record_paper}

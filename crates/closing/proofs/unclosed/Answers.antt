@@ -1,5 +1,4 @@
 -- `closing::unclosed` meets its contract. Assumes nothing.
-use borrow.Author.Rules.{rules}
 use Rattle.closing.specs.Paper.{plan_closed}
 use Rattle.closing.proofs.Closing.{refused-beside}
 use Rattle.closing.proofs.unclosed.Goals as goal

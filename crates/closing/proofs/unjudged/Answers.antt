@@ -1,5 +1,4 @@
 -- `closing::unjudged` meets its contract. Assumes nothing.
-use borrow.Author.Rules.{rules}
 use Rattle.closing.specs.Paper.{plan_judged}
 use Rattle.closing.proofs.Closing.{refused-beside}
 use Rattle.closing.proofs.unjudged.Goals as goal

@@ -1,5 +1,4 @@
 -- `closing::with_plan` meets its contract. Assumes nothing.
-use borrow.Author.Rules.{rules}
 use Rattle.closing.proofs.with_plan.Goals as goal
 
 pub returns-in-Refused : goal.returns-in-Refused

@@ -2,7 +2,6 @@
 -- Assumes nothing.
 use mathlib.Core.Path.{sym}
 use native.Mathlib.Omega.{arith}
-use borrow.Author.Rules.{rules}
 use Rattle.rules.proofs.Diff.{diff-of}
 use Rattle.rules.proofs.Readings.{rejected-by}
 use Rattle.gauge.proofs.Bounds.{Products, products}

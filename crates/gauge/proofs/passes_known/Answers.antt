@@ -4,7 +4,6 @@ use Prim.Native.Nat.{◌*◌, ◌≤◌}
 use mathlib.Core.Path.{sym}
 use native.Mathlib.Nat.{mul-le-mul}
 use native.Mathlib.Omega.{arith}
-use borrow.Author.Rules.{rules}
 use Rattle.rules.proofs.Diff.{diff-of}
 use Rattle.rules.proofs.Readings.{within-sigma-is}
 use Rattle.gauge.proofs.passes_known.Reads as reads

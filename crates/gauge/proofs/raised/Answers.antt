@@ -3,7 +3,6 @@
 use native.Mathlib.Omega.{arith}
 use mir.Syntax.{w32}
 use mir.ValLaws.{to_z-of_z}
-use Rattle.gauge.proofs.Exact.{back}
 use Rattle.gauge.proofs.Limit.{raise}
 use Rattle.gauge.proofs.raised.Goals as goal
 

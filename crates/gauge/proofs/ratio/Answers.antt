@@ -2,7 +2,6 @@
 -- Assumes nothing.
 use mathlib.Core.Path.{refl}
 use native.Mathlib.Omega.{arith}
-use borrow.Author.Rules.{rules}
 use Rattle.rules.specs.Screen.{quotient}
 use Rattle.gauge.proofs.Exact.{sub-fits, sub-float, float-nat, back}
 use Rattle.gauge.proofs.ratio.Goals as goal

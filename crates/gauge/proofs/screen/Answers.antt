@@ -2,7 +2,6 @@
 -- Assumes nothing.
 use mathlib.Core.Path.{refl, sym, ◌∙◌}
 use borrow.Author.Tests.{not-true, not-false}
-use borrow.Author.Rules.{rules}
 use Rattle.rules.proofs.Readings.{screen-half, screen-none, screen-many, screen-reading, screen-shows}
 use Rattle.gauge.proofs.screen.Goals as goal
 

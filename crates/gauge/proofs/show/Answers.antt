@@ -5,7 +5,6 @@ use mathlib.Core.Path.{refl, ap}
 use native.Mathlib.Omega.{arith}
 use native.Mathlib.Nat.{mul-le-mul}
 use borrow.Author.Tests.{eq-eqb, ne_eqb}
-use borrow.Author.Rules.{rules}
 use Rattle.rules.specs.Refusals.{given}
 use Rattle.rules.specs.Screen.{shown_of, mean}
 use Rattle.gauge.proofs.FromSums.{spread-from}

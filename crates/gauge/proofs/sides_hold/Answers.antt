@@ -1,6 +1,5 @@
 -- `gauge::sides_hold` meets its contract.
 -- Assumes nothing.
-use borrow.Author.Rules.{rules}
 use Rattle.gauge.proofs.sides_hold.Goals as goal
 
 pub returns : goal.returns

@@ -1,6 +1,5 @@
 -- `gauge::spread_in` meets its contract.
 -- Assumes nothing.
-use borrow.Author.Rules.{rules}
 use Rattle.rules.specs.Limits.{spread_in}
 use Rattle.gauge.proofs.spread_in.Goals as goal
 

@@ -1,10 +1,7 @@
 -- `gauge::sum_up` meets its contract.
 -- Assumes nothing.
 use Prim.Native.Nat.{◌-◌}
-use mathlib.Core.Path.{refl}
-use native.Mathlib.Omega.{arith}
-use borrow.Author.Rules.{rules}
-use Rattle.gauge.proofs.Pass.{Passing, passing-starts, stopped-below, stopped-above, passing-on, passed}
+use Rattle.gauge.proofs.Pass.{Passing}
 use Rattle.gauge.proofs.sum_up.Given as goal
 
 abbrev pub invariant-loop-i : goal.invariant-loop-i

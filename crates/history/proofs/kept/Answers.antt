@@ -1,5 +1,4 @@
 -- `history::kept` meets its contract. Assumes nothing.
-use borrow.Author.Rules.{rules}
 use Rattle.history.proofs.Lending.{kept-given, kept-refused}
 use Rattle.history.proofs.kept.Goals as goal
 

@@ -4,7 +4,6 @@ use lib.Seq.{length-take-le}
 use native.Mathlib.Omega.{arith}
 use Rattle.severity.specs.Paper.{work_paper}
 use Rattle.lotlines.proofs.Logging.{long-ended, line-ended}
-use borrow.Author.Rules.{rules}
 use Rattle.lotlines.proofs.end_line.Goals as goal
 
 pub returns-then-count-gt-LONGEST : goal.returns-then-count-gt-LONGEST

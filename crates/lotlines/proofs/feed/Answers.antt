@@ -1,6 +1,5 @@
 -- `lotlines::feed` meets its contract. Assumes nothing.
-use mathlib.Core.Path.{◌≡◌, sym, ap, ◌∙◌}
-use Rattle.rules.specs.Feeding.{longest_line}
+use mathlib.Core.Path.{sym, ap, ◌∙◌}
 use lib.ListN.{length}
 use Rattle.severity.specs.Paper.{work_paper}
 use Rattle.lotlines.proofs.Keeping.{length-after}

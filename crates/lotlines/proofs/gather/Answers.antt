@@ -1,8 +1,5 @@
 -- `lotlines::gather` meets its contract. Assumes nothing.
-use Prim.Native.Nat.{◌-◌}
-use lib.ListN.{length}
-use borrow.Author.Rules.{rules}
-use Rattle.lotlines.proofs.Keeping.{Gathering, gathers-first, gathers-newline, gathers-more, gathers-end}
+use Rattle.lotlines.proofs.Keeping.{gathers-first, gathers-newline, gathers-more, gathers-end}
 use Rattle.lotlines.proofs.gather.Goals as goal
 
 pub loop-i-init : goal.loop-i-init

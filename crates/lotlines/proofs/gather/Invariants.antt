@@ -1,8 +1,7 @@
 -- `lotlines::gather` meets its contract. Assumes nothing.
 use Prim.Native.Nat.{◌-◌}
 use lib.ListN.{length}
-use borrow.Author.Rules.{rules}
-use Rattle.lotlines.proofs.Keeping.{Gathering, gathers-first, gathers-newline, gathers-more, gathers-end}
+use Rattle.lotlines.proofs.Keeping.{Gathering}
 use Rattle.lotlines.proofs.gather.Given as goal
 
 abbrev pub invariant-loop-i : goal.invariant-loop-i

@@ -1,6 +1,5 @@
 -- `lotlines::keep` meets its contract. Assumes nothing.
 use Rattle.lotlines.proofs.Keeping.{room, no-room}
-use borrow.Author.Rules.{rules}
 use Rattle.lotlines.proofs.keep.Goals as goal
 
 pub returns-then-length-lt-LONGEST : goal.returns-then-length-lt-LONGEST

@@ -1,7 +1,6 @@
 -- `lotlines::log_as` meets its contract. Assumes nothing.
 use Rattle.severity.specs.Paper.{work_paper}
 use Rattle.lotlines.proofs.Logging.{lot-said, order-said, unknown-said}
-use borrow.Author.Rules.{rules}
 use Rattle.lotlines.proofs.log_as.Goals as goal
 
 pub returns-in-Lot : goal.returns-in-Lot

@@ -1,6 +1,5 @@
 -- `lotlines::log_lot` meets its contract. Assumes nothing.
 use Rattle.lotlines.proofs.Logging.{lot-refused, lot-given}
-use borrow.Author.Rules.{rules}
 use Rattle.lotlines.proofs.log_lot.Goals as goal
 
 pub returns-in-Refused : goal.returns-in-Refused

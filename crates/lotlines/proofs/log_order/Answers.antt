@@ -1,6 +1,5 @@
 -- `lotlines::log_order` meets its contract. Assumes nothing.
 use Rattle.lotlines.proofs.Logging.{order-refused, order-given}
-use borrow.Author.Rules.{rules}
 use Rattle.lotlines.proofs.log_order.Goals as goal
 
 pub returns-in-Refused : goal.returns-in-Refused

@@ -2,7 +2,6 @@
 use mathlib.Core.Path.{refl}
 use Rattle.severity.specs.Paper.{work_paper}
 use Rattle.lotlines.proofs.Keeping.{starts-held}
-use borrow.Author.Rules.{rules}
 use Rattle.lotlines.proofs.start.Goals as goal
 
 pub returns : goal.returns

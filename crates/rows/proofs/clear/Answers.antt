@@ -1,9 +1,6 @@
 -- `rows::clear` meets its contract.
 -- Assumes nothing.
-use Prim.Native.Nat.{◌-◌}
 use native.Mathlib.Omega.{arith}
-use borrow.Author.Rules.{rules}
-use Rattle.rows.specs.Paper.{Clearing}
 use Rattle.rows.proofs.Stores.{clear-opens, clear-next, clear-done}
 use Rattle.rows.proofs.clear.Goals as goal
 

@@ -1,10 +1,7 @@
 -- `rows::clear` meets its contract.
 -- Assumes nothing.
 use Prim.Native.Nat.{◌-◌}
-use native.Mathlib.Omega.{arith}
-use borrow.Author.Rules.{rules}
 use Rattle.rows.specs.Paper.{Clearing}
-use Rattle.rows.proofs.Stores.{clear-opens, clear-next, clear-done}
 use Rattle.rows.proofs.clear.Given as goal
 
 abbrev pub invariant-loop-i : goal.invariant-loop-i

@@ -3,7 +3,6 @@
 use Prim.Native.Nat.{◌*◌, ◌<◌}
 use native.Mathlib.Omega.{arith}
 use lib.ListN.{length, get_or, length-set}
-use borrow.Author.Rules.{rules}
 use Rattle.rules.specs.Numbers.{numbers_of}
 use Rattle.rules.proofs.Numbers.{number-at, numbers-count}
 use Rattle.rows.proofs.Stores.{copied}

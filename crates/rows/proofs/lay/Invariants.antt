@@ -1,15 +1,9 @@
 -- `rows::lay` meets its contract.
 -- Assumes nothing.
 use Prim.Native.Nat.{◌-◌}
-use mathlib.Core.Path.{refl}
-use native.Mathlib.Omega.{arith}
 use Rattle.rules.specs.Numbers.{numbers_of}
 use Rattle.rules.specs.Book.{kind_at}
-use Rattle.rules.proofs.Numbers.{numbers-low}
 use Rattle.rows.specs.Paper.{Laying}
-use Rattle.rows.proofs.AnyRow.{any-rowed, placed}
-use Rattle.rows.proofs.Laid.{lay-opens, lay-there, lay-next, lay-done}
-use borrow.Author.Rules.{rules}
 use Rattle.rows.proofs.lay.Given as goal
 
 abbrev pub invariant-loop-i : goal.invariant-loop-i

@@ -1,10 +1,9 @@
 -- `rows::lay_as` meets its contract.
 -- Assumes nothing.
 use mathlib.Core.Path.{ap}
-use borrow.Author.Rules.{rules}
 use Rattle.rules.specs.Book.{kind_at}
 use Rattle.entry.proofs.AnyKind.{last-kind}
-use Rattle.rows.proofs.Laid.{layable-as, laid-as}
+use Rattle.rows.proofs.Laid.{layable-as}
 use Rattle.rows.proofs.lay_as.Goals as goal
 
 pub lay-requires : goal.lay-requires

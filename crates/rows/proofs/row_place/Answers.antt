@@ -2,7 +2,6 @@
 -- Assumes nothing.
 use mathlib.Core.Path.{sym}
 use borrow.Author.Tests.{lt-ltb, le-ltb, eq-eqb, ne_eqb}
-use borrow.Author.Rules.{rules}
 use Rattle.rules.specs.Book.{staged_in_row}
 use Rattle.rows.proofs.AnyRow.{plain-place}
 use Rattle.rows.proofs.row_place.Goals as goal

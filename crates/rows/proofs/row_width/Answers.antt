@@ -1,6 +1,5 @@
 -- `rows::row_width` meets its contract.
 -- Assumes nothing.
-use borrow.Author.Rules.{rules}
 use Rattle.rows.proofs.AnyRow.{width-last}
 use Rattle.rows.proofs.row_width.Goals as goal
 

@@ -1,17 +1,14 @@
 -- `rows::show` meets its contract.
 -- Assumes nothing.
-use Prim.Native.Nat.{ℕ, ◌*◌, ◌-◌}
+use Prim.Native.Nat.{ℕ, ◌*◌}
 use mathlib.Core.Path.{◌≡◌, refl, ap, ◌∙◌}
 use mathlib.Core.List.{◌++◌}
 use native.Mathlib.Omega.{arith}
 use lib.ListN.{drop, replicate}
-use Rattle.rules.specs.Numbers.{numbers_of}
 use Rattle.rules.specs.Book.{kind_at}
 use Rattle.rules.proofs.Numbers.{numbers-low}
-use Rattle.rows.specs.Paper.{Showing}
 use Rattle.rows.proofs.AnyRow.{any-rowed, placed}
 use Rattle.rows.proofs.Shown.{rest-kept, show-opens, show-there, show-next, show-done, shown-length}
-use borrow.Author.Rules.{rules}
 use Rattle.rows.proofs.show.Goals as goal
 use Rattle.rows.proofs.show.Goals.{After-clear}
 

@@ -1,6 +1,5 @@
 -- `samples::curtailed_sample` meets its contract.
 -- Assumes nothing.
-use borrow.Author.Rules.{rules}
 use borrow.Author.Tests.{lt-ltb, le-ltb}
 use Rattle.rules.specs.Entries.{curtailed_sample}
 use Rattle.samples.proofs.curtailed_sample.Goals as goal

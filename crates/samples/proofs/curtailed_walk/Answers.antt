@@ -1,12 +1,9 @@
 -- `samples::curtailed_walk` meets its contract: one law for each exit of the loop.
 -- Assumes nothing.
-use Prim.Native.Nat.{◌-◌, ◌≤◌}
 use mathlib.Core.Path.{sym, ◌∙◌}
 use native.Mathlib.Omega.{arith}
-use borrow.Author.Rules.{rules}
-use Rattle.rules.proofs.SampleSteps.{CurtailedAt, curtailed-start, curtailed-done, curtailed-missing, curtailed-over}
+use Rattle.rules.proofs.SampleSteps.{curtailed-start, curtailed-done, curtailed-missing, curtailed-over}
 use Rattle.rules.proofs.SampleSteps.{curtailed-lost, curtailed-goes}
-use Rattle.plans.specs.Paper.{plan_paper}
 use Rattle.samples.proofs.curtailed_walk.Goals as goal
 
 pub loop-i-init : goal.loop-i-init

@@ -1,11 +1,7 @@
 -- `samples::curtailed_walk` meets its contract: one law for each exit of the loop.
 -- Assumes nothing.
 use Prim.Native.Nat.{◌-◌, ◌≤◌}
-use mathlib.Core.Path.{sym, ◌∙◌}
-use native.Mathlib.Omega.{arith}
-use borrow.Author.Rules.{rules}
-use Rattle.rules.proofs.SampleSteps.{CurtailedAt, curtailed-start, curtailed-done, curtailed-missing, curtailed-over}
-use Rattle.rules.proofs.SampleSteps.{curtailed-lost, curtailed-goes}
+use Rattle.rules.proofs.SampleSteps.{CurtailedAt}
 use Rattle.plans.specs.Paper.{plan_paper}
 use Rattle.samples.proofs.curtailed_walk.Given as goal
 

@@ -2,7 +2,6 @@
 -- Assumes nothing.
 use mathlib.Core.Path.{sym}
 use native.Mathlib.Omega.{arith}
-use borrow.Author.Rules.{rules}
 use Rattle.rules.proofs.Numbers.{numbers-low}
 use Rattle.rules.proofs.SampleSteps.{ended-there, ended-past}
 use Rattle.plans.specs.Paper.{verdict_paper}

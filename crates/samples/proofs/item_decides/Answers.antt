@@ -1,7 +1,6 @@
 -- `samples::item_decides` meets its contract.
 -- Assumes nothing.
 use mathlib.Core.Path.{sym, ◌∙◌}
-use borrow.Author.Rules.{rules}
 use borrow.Author.Tests.{lt-ltb, le-ltb}
 use Rattle.rules.specs.Sequential.{item_decides}
 use Rattle.samples.proofs.item_decides.Goals as goal

@@ -2,7 +2,6 @@
 -- Assumes nothing.
 use native.Mathlib.Omega.{arith}
 use Rattle.rules.proofs.Steps.{square-fits}
-use borrow.Author.Rules.{rules}
 use Rattle.samples.proofs.on_accept_line.Goals as goal
 
 pub overflow_mul-line : goal.overflow_mul-line

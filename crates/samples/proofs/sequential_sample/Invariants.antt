@@ -1,12 +1,7 @@
 -- `samples::sequential_sample` meets its contract. The invariant: the walk has come to the item at place i.
 -- Assumes nothing.
 use Prim.Native.Nat.{◌-◌, ◌≤◌}
-use mathlib.Core.Path.{sym, ap, ◌∙◌}
-use native.Mathlib.Omega.{arith}
-use borrow.Author.Rules.{rules}
-use Rattle.rules.proofs.SampleSteps.{SequentialAt, sequential-start, sequential-short, sequential-over}
-use Rattle.rules.proofs.SampleSteps.{sequential-decides, sequential-goes, goes-before}
-use Rattle.samples.specs.Paper.{decision_paper}
+use Rattle.rules.proofs.SampleSteps.{SequentialAt}
 use Rattle.entry.specs.Paper.{sequential_paper}
 use Rattle.samples.proofs.sequential_sample.Given as goal
 

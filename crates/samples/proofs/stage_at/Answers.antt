@@ -1,6 +1,5 @@
 -- `samples::stage_at` meets its contract.
 -- Assumes nothing.
-use borrow.Author.Rules.{rules}
 use Rattle.samples.proofs.stage_at.Goals as goal
 
 pub returns : goal.returns

@@ -1,6 +1,5 @@
 -- `samples::stage_decides` meets its contract.
 -- Assumes nothing.
-use borrow.Author.Rules.{rules}
 use borrow.Author.Tests.{le-leb, lt-leb}
 use Rattle.rules.specs.Staged.{stage_decides}
 use Rattle.samples.proofs.stage_decides.Goals as goal

@@ -1,6 +1,5 @@
 -- `samples::staged_sample` meets its contract.
 -- Assumes nothing.
-use borrow.Author.Rules.{rules}
 use borrow.Author.Tests.{lt-ltb, le-ltb}
 use Rattle.rules.specs.Entries.{staged_sample}
 use Rattle.samples.proofs.staged_sample.Goals as goal

@@ -1,16 +1,10 @@
 -- `samples::staged_walk` meets its contract. The invariant: the walk has come to the stage at place i.
 -- Assumes nothing.
 use Prim.Native.Nat.{◌-◌, ◌*◌, ◌≤◌}
-use mathlib.Core.Path.{◌≡◌, sym, ap, ◌∙◌}
-use native.Mathlib.Omega.{arith}
-use lib.ListN.{length, get_or}
+use lib.ListN.{length}
 use Rattle.rules.specs.Numbers.{numbers_of}
-use Rattle.rules.specs.Staged.{Stage, stage_decides}
-use Rattle.rules.proofs.SampleSteps.{StagedAt, staged-start, staged-done, staged-missing, staged-over}
-use Rattle.rules.proofs.SampleSteps.{staged-decides, staged-goes, taken-there}
+use Rattle.rules.proofs.SampleSteps.{StagedAt}
 use Rattle.entry.specs.Paper.{staged_paper}
-use Rattle.samples.specs.Paper.{taken_paper, taken_total, decision_paper}
-use borrow.Author.Rules.{rules}
 use Rattle.samples.proofs.staged_walk.Given as goal
 
 abbrev pub invariant-loop-i : goal.invariant-loop-i

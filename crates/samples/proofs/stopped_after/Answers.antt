@@ -1,6 +1,5 @@
 -- `samples::stopped_after` meets its contract: the verdict tells the items read.
 -- Assumes nothing.
-use borrow.Author.Rules.{rules}
 use Rattle.samples.proofs.stopped_after.Goals as goal
 
 pub returns : goal.returns

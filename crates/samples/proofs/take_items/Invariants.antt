@@ -1,11 +1,8 @@
 -- `samples::take_items` meets its contract: one law for each exit of the loop.
 -- Assumes nothing.
 use Prim.Native.Nat.{◌+◌, ◌-◌, ◌*◌, ◌≤◌}
-use mathlib.Core.Path.{sym, ◌∙◌}
-use borrow.Author.Rules.{rules}
-use native.Mathlib.Omega.{arith}
 use Rattle.rules.specs.Numbers.{numbers_of}
-use Rattle.rules.proofs.SampleSteps.{TakingAt, taking-start, taking-done, taking-missing, taking-over, taking-item}
+use Rattle.rules.proofs.SampleSteps.{TakingAt}
 use Rattle.samples.proofs.take_items.Given as goal
 
 abbrev pub invariant-loop-i : goal.invariant-loop-i

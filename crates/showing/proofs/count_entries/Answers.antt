@@ -6,7 +6,6 @@ use Rattle.rules.specs.Book.{check_book}
 use Rattle.rules.specs.Writing.{count_entries}
 use Rattle.book.specs.Paper.{book_paper}
 use Rattle.rules.proofs.EntryLaws.{broken-first, is-sound}
-use borrow.Author.Rules.{rules}
 use Rattle.showing.proofs.count_entries.Goals as goal
 
 pub returns-in-Refused : goal.returns-in-Refused

@@ -3,7 +3,6 @@
 use native.Mathlib.Omega.{arith}
 use Rattle.rules.specs.Numbers.{numbers_of}
 use Rattle.showing.proofs.Places.{none-there, count-there}
-use borrow.Author.Rules.{rules}
 use Rattle.showing.proofs.entries_in.Goals as goal
 
 pub returns-then-j-ge-KINDS : goal.returns-then-j-ge-KINDS

@@ -6,7 +6,6 @@ use Rattle.rules.specs.Book.{check_book, sound}
 use Rattle.rules.proofs.EntryLaws.{is-sound}
 use Rattle.book.specs.Paper.{book_paper}
 use Rattle.showing.proofs.Places.{tell-broken, tell-none, tell-short, known, tell-row}
-use borrow.Author.Rules.{rules}
 use Rattle.showing.proofs.read_entry.Goals as goal
 use Rattle.showing.proofs.read_entry.Goals.{In-Sound}
 

@@ -9,7 +9,6 @@ use Rattle.rules.specs.Book.{kind_at}
 use Rattle.rules.proofs.Numbers.{numbers-part}
 use Rattle.rows.specs.Paper.{entry_shown}
 use Rattle.showing.proofs.Places.{place-is, place-near, row-shown}
-use borrow.Author.Rules.{rules}
 use Rattle.showing.proofs.show.Goals as goal
 use Rattle.showing.proofs.show.Goals.{After-entry_place-place}
 

@@ -12,7 +12,6 @@ use Rattle.rules.proofs.RowLaws.{rowed}
 use Rattle.rows.specs.Paper.{row_size}
 use Rattle.writing.specs.Paper.{InList}
 use Rattle.writing.proofs.Checking.{list-opens, list-bad, list-next, list-done}
-use borrow.Author.Rules.{rules}
 use Rattle.writing.proofs.check_list.Goals as goal
 use Rattle.writing.proofs.check_list.Goals.{After-walk_row-more}
 

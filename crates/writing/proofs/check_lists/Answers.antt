@@ -1,16 +1,14 @@
 -- `writing::check_lists` meets its contract.
 -- Assumes nothing.
-use Prim.Native.Nat.{ℕ, ◌-◌}
+use Prim.Native.Nat.{ℕ}
 use mathlib.Core.Path.{◌≡◌, subst}
 use mathlib.Core.List.{List}
 use native.Mathlib.Omega.{arith}
-use lib.ListN.{length}
-use Rattle.rules.specs.Book.{kinds, kind_at}
+use Rattle.rules.specs.Book.{kind_at}
 use Rattle.rules.specs.Writing.{Rows, lent_rows}
 use Rattle.writing.specs.declared.ListCheck.{ListCheck}
 use Rattle.writing.specs.Paper.{lists, rows_of, ListChecked, InLists}
 use Rattle.writing.proofs.Checking.{lists-open, lists-bad, bad-bounded, right-bounded, lists-next, lists-done}
-use borrow.Author.Rules.{rules}
 use Rattle.writing.proofs.check_lists.Goals as goal
 use Rattle.writing.proofs.check_lists.Goals.{After-check_list}
 

@@ -1,16 +1,10 @@
 -- `writing::check_lists` meets its contract.
 -- Assumes nothing.
-use Prim.Native.Nat.{ℕ, ◌-◌}
-use mathlib.Core.Path.{◌≡◌, subst}
-use mathlib.Core.List.{List}
-use native.Mathlib.Omega.{arith}
+use Prim.Native.Nat.{◌-◌}
 use lib.ListN.{length}
-use Rattle.rules.specs.Book.{kinds, kind_at}
-use Rattle.rules.specs.Writing.{Rows, lent_rows}
-use Rattle.writing.specs.declared.ListCheck.{ListCheck}
-use Rattle.writing.specs.Paper.{lists, rows_of, ListChecked, InLists}
-use Rattle.writing.proofs.Checking.{lists-open, lists-bad, bad-bounded, right-bounded, lists-next, lists-done}
-use borrow.Author.Rules.{rules}
+use Rattle.rules.specs.Book.{kinds}
+use Rattle.rules.specs.Writing.{lent_rows}
+use Rattle.writing.specs.Paper.{lists, InLists}
 use Rattle.writing.proofs.check_lists.Given as goal
 
 abbrev pub invariant-loop-kind : goal.invariant-loop-kind

@@ -1,12 +1,9 @@
 -- `writing::copy_bytes` meets its contract.
 -- Assumes nothing.
-use Prim.Native.Nat.{◌+◌, ◌-◌, ◌≤◌}
-use mathlib.Core.Path.{◌≡◌, refl, ◌∙◌}
+use mathlib.Core.Path.{refl, ◌∙◌}
 use native.Mathlib.Omega.{arith}
-use lib.ListN.{length, drop, length-set}
-use lib.Seq.{sets}
+use lib.ListN.{length-set}
 use Rattle.writing.proofs.Laying.{copy-first, copy-next, copy-done}
-use borrow.Author.Rules.{rules}
 use Rattle.writing.proofs.copy_bytes.Goals as goal
 
 pub loop-i-preserved : goal.loop-i-preserved

@@ -14,7 +14,6 @@ use Rattle.rules.proofs.RowLaws.{rowed}
 use Rattle.rows.proofs.AnyRow.{plain-place, plain-size}
 use Rattle.writing.specs.Paper.{rows_of}
 use Rattle.writing.proofs.Laying.{plain-bytes}
-use borrow.Author.Rules.{rules}
 use Rattle.writing.proofs.lay_list.Goals as goal
 use Rattle.writing.proofs.lay_list.Goals.{Else-kind-eq-STAGED}
 

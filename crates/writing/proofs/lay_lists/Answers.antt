@@ -1,15 +1,13 @@
 -- `writing::lay_lists` meets its contract.
 -- Assumes nothing.
-use Prim.Native.Nat.{ℕ, ◌+◌, ◌-◌}
+use Prim.Native.Nat.{ℕ, ◌+◌}
 use mathlib.Core.Path.{subst, sym}
 use mathlib.Core.List.{List}
 use native.Mathlib.Omega.{arith}
-use lib.ListN.{length}
-use Rattle.rules.specs.Book.{kinds, kind_at}
+use Rattle.rules.specs.Book.{kind_at}
 use Rattle.rules.specs.Writing.{Rows, lent_rows}
 use Rattle.writing.specs.Paper.{lists, rows_of, SectionLayable, SectionLaid, LayingLists}
 use Rattle.writing.proofs.Laying.{sections-open, section-layable, section-next, sections-end}
-use borrow.Author.Rules.{rules}
 use Rattle.writing.proofs.lay_lists.Goals as goal
 use Rattle.writing.proofs.lay_lists.Goals.{After-list_of-list}
 

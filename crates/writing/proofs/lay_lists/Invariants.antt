@@ -1,15 +1,10 @@
 -- `writing::lay_lists` meets its contract.
 -- Assumes nothing.
-use Prim.Native.Nat.{ℕ, ◌+◌, ◌-◌}
-use mathlib.Core.Path.{subst, sym}
-use mathlib.Core.List.{List}
-use native.Mathlib.Omega.{arith}
+use Prim.Native.Nat.{◌-◌}
 use lib.ListN.{length}
-use Rattle.rules.specs.Book.{kinds, kind_at}
-use Rattle.rules.specs.Writing.{Rows, lent_rows}
-use Rattle.writing.specs.Paper.{lists, rows_of, SectionLayable, SectionLaid, LayingLists}
-use Rattle.writing.proofs.Laying.{sections-open, section-layable, section-next, sections-end}
-use borrow.Author.Rules.{rules}
+use Rattle.rules.specs.Book.{kinds}
+use Rattle.rules.specs.Writing.{lent_rows}
+use Rattle.writing.specs.Paper.{lists, LayingLists}
 use Rattle.writing.proofs.lay_lists.Given as goal
 
 abbrev pub invariant-loop-kind : goal.invariant-loop-kind

@@ -11,9 +11,7 @@ use Rattle.rules.specs.Book.{Kind, kind_at, size_of}
 use Rattle.rules.proofs.Numbers.{numbers-low}
 use Rattle.rules.proofs.RowLaws.{Rowed, rowed}
 use Rattle.rows.specs.Paper.{entry_laid}
-use Rattle.writing.specs.Paper.{LayingRows}
 use Rattle.writing.proofs.Laying.{rows-open, row-there, row-size, row-near, rows-go-on, rows-end}
-use borrow.Author.Rules.{rules}
 use Rattle.writing.proofs.lay_rows.Goals as goal
 use Rattle.writing.proofs.lay_rows.Goals.{After-size_at-to}
 

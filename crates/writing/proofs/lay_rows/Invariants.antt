@@ -1,19 +1,8 @@
 -- `writing::lay_rows` meets its contract.
 -- Assumes nothing.
-use Prim.Native.Nat.{ℕ, ◌+◌, ◌*◌, ◌-◌, ◌≤◌}
-use mathlib.Core.Path.{◌≡◌, ap, ◌∙◌}
-use mathlib.Core.List.{List}
-use native.Mathlib.Omega.{arith}
-use lib.ListN.{length, drop, take, length-drop}
-use lib.Seq.{take_all}
-use Rattle.rules.specs.Numbers.{numbers_of}
-use Rattle.rules.specs.Book.{Kind, kind_at, size_of}
-use Rattle.rules.proofs.Numbers.{numbers-low}
-use Rattle.rules.proofs.RowLaws.{Rowed, rowed}
-use Rattle.rows.specs.Paper.{entry_laid}
+use Prim.Native.Nat.{◌-◌}
+use Rattle.rules.specs.Book.{kind_at}
 use Rattle.writing.specs.Paper.{LayingRows}
-use Rattle.writing.proofs.Laying.{rows-open, row-there, row-size, row-near, rows-go-on, rows-end}
-use borrow.Author.Rules.{rules}
 use Rattle.writing.proofs.lay_rows.Given as goal
 
 abbrev pub invariant-loop-from : goal.invariant-loop-from

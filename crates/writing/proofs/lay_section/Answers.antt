@@ -14,7 +14,6 @@ use Rattle.rules.proofs.RowLaws.{rowed}
 use Rattle.rules.proofs.FewKeys.{few-right}
 use Rattle.writing.specs.Paper.{rows_of, Layable}
 use Rattle.writing.proofs.Laying.{rows-count, still-layable, section-left, list-layable, section-laid}
-use borrow.Author.Rules.{rules}
 use Rattle.writing.proofs.lay_section.Goals as goal
 use Rattle.writing.proofs.lay_section.Goals.{Else-left_out}
 

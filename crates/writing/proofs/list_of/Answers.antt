@@ -7,7 +7,6 @@ use native.Mathlib.Omega.{arith}
 use lib.ListN.{get_or}
 use Rattle.entry.proofs.AnyKind.{None}
 use Rattle.writing.specs.Paper.{lists}
-use borrow.Author.Rules.{rules}
 use Rattle.writing.proofs.list_of.Goals as goal
 
 -- the last of five

@@ -2,7 +2,6 @@
 -- Assumes nothing.
 use native.Mathlib.Numerals.{add-one}
 use Rattle.rules.specs.Numbers.{number_bytes}
-use borrow.Author.Rules.{rules}
 use Rattle.writing.proofs.put_count.Goals as goal
 
 pub returns : goal.returns

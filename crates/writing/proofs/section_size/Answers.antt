@@ -1,7 +1,6 @@
 -- `writing::section_size` meets its contract.
 -- Assumes nothing.
 use mathlib.Core.Path.{sym, ◌∙◌}
-use borrow.Author.Rules.{rules}
 use Rattle.writing.proofs.section_size.Goals as goal
 
 pub returns-then-left_out : goal.returns-then-left_out

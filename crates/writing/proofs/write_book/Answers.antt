@@ -7,7 +7,6 @@ use Rattle.rules.specs.Writing.{Rows, lent_rows}
 use Rattle.writing.specs.declared.ListCheck.{ListCheck}
 use Rattle.writing.specs.Paper.{lists, ListsChecked}
 use Rattle.writing.proofs.Telling.{tell-bad, tell-short, tell-long, writable, tell-written}
-use borrow.Author.Rules.{rules}
 use Rattle.writing.proofs.write_book.Goals as goal
 use Rattle.writing.proofs.write_book.Goals.{After-check_lists}
 

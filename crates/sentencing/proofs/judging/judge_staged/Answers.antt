@@ -8,39 +8,31 @@ use Rattle.entry.specs.Paper.{staged_paper, no_stages}
 use Rattle.closing.specs.Paper.{plan_judged}
 use Rattle.sentencing.proofs.Verdicts.{lettered-refused, lettered-given, judged-refused, judged-given}
 use Rattle.sentencing.proofs.Verdicts.{staged-sample}
-use borrow.Author.Rules.{rules}
-use Rattle.sentencing.proofs.judging.judge_staged.Statement.{statement}
-use Rattle.sentencing.proofs.judging.judge_staged.Tie as tie
+use Rattle.sentencing.proofs.judging.judge_staged.Goals as goal
 
-returns : tie.Need-returns
+pub returns-in-Refused : goal.returns-in-Refused
 unfolding judge_staged
-returns c =
-    let a = c.before.before.before.before.before.before.before.before.args in
-    c.staged-judged.ensures
+returns-in-Refused c =
+    let a = c.args in
+    c.staged_judged.ensures
     ∙ ap (beside no_stages plan_judged)
     (judged-refused (staged_plan (asked_paper a.lot) a.book.now)
     (λ p. judge_stages a.lot.column p a.sample.now) _ _
     (lettered-refused no_stages (asked_paper a.lot) _ _ _ _
-    c.before.before.before.before.before.staged-plan.ensures _ _
-    c.before.before.answer.given.1))
+    c.staged_plan-planned.ensures _ _
+    c.in-Refused.is))
 
-returns-2 : tie.Need-returns-2
+pub returns-in-Given : goal.returns-in-Given
 unfolding judge_staged
-returns-2 c =
-    let a = c.before.before.before.before.before.before.before.before.args in
-    let plan = staged_paper c.before.before.before.before.before.staged-plan.result.plan in
+returns-in-Given c =
+    let a = c.args in
+    let plan = staged_paper c.staged_plan-planned.result.plan in
     let g = lettered-given no_stages (asked_paper a.lot) (staged_plan (asked_paper a.lot) a.book.now) _ _ plan
-    c.before.before.before.before.before.staged-plan.ensures c.before.before.enum_told.given.1 in
-    c.staged-judged2.ensures
+    c.staged_plan-planned.ensures c.in-Given.is in
+    c.staged_judged-in-Given.ensures
     ∙ ap (beside no_stages plan_judged)
     (judged-given (staged_plan (asked_paper a.lot) a.book.now)
     (λ p. judge_stages a.lot.column p a.sample.now) plan
-    c.before.staged-sample.result g
-    (c.before.staged-sample.ensures
+    c.staged_sample.result g
+    (c.staged_sample.ensures
     ∙ staged-sample (asked_paper a.lot) a.book.now a.sample.now plan g))
-
-pub judge-staged-spec : {M : Type 1} → statement M
-judge-staged-spec =
-    tie.close
-    (tie.spec (λ c κs. search rules) (λ c. search rules) (λ c κs. search rules) (λ c. search rules)
-    (λ c κs. search rules) (λ c κs. search rules) returns returns-2)

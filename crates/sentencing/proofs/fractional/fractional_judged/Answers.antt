@@ -1,0 +1,10 @@
+-- `sentencing::fractional::fractional_judged` meets its contract. Assumes nothing.
+use Rattle.closing.proofs.Closing.{refused-beside}
+use Rattle.closing.specs.Paper.{plan_judged}
+use Rattle.sentencing.proofs.fractional.fractional_judged.Goals as goal
+
+pub returns-in-Refused : goal.returns-in-Refused
+returns-in-Refused c = rw c.in-Refused.is (refused-beside plan_judged c.no_fraction.ensures)
+
+pub returns-in-Given : goal.returns-in-Given
+returns-in-Given c = rw c.in-Given.is
