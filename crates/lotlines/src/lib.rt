@@ -109,7 +109,7 @@ fn log_as(work: Work, supply: Supply, line: u64, said: Line, out: &mut [u8; LINE
 }
 
 // Between pieces: the record, the number of the unfinished line, how many bytes of it came and those bytes.
-#[derive(Drop)]
+#[derive(Clone, Copy)]
 pub struct State {
     pub supply: Supply,
     pub line: u64,

@@ -1,19 +1,25 @@
-// Standard input's lines of lots and orders to standard output's log, turn by turn: what waits is written, the next
-// piece is read where the last one is used up, and its lines are put into the output.
-ghost use Rattle.std.specs.Prelude.{◌+◌, ◌<◌, ◌≤◌, ◌≡◌, length};
+// A reader's lines of lots and orders to a writer's log, turn by turn: what waits is written, the next piece is read
+// where the last one is used up, and its lines are put into the output.
+#![tactic(auto)]
+
+ghost use Rattle.std.specs.Prelude.{◌+◌, ◌<◌, ◌≤◌, ◌≡◌, length, pos, OnErr, IfOk, ◌<ℤ◌};
+ghost use Rattle.std.specs.Io.{ReadsAtMost};
 ghost use Rattle.lottexts.specs.Printing.{line_room};
 ghost use Rattle.lotstream.specs.Turns.{PutAfter, Logs, Opened, Written, Taken, Got, LastPut};
 ghost use Rattle.lotstream.specs.Runs.{least_room, scene, Fits, Turned, Runs};
 
-use libc::{STDIN_FILENO, STDOUT_FILENO};
+#[cfg(test)]
+mod tests;
+
 use lotlines::{LINE, State};
+use std::io::{Read, Result, Write};
 
 // The least output to work in: the header, and another line.
 const LEAST: usize = 100;
 
 // What is held between turns, how many bytes the piece has and how many of them were taken, how many bytes of the
 // output wait, whether the input has ended, and whether a call failed, which was then said on standard error.
-#[derive(Drop)]
+#[derive(Clone, Copy)]
 pub struct Turn {
     pub state: State,
     pub length: usize,
@@ -120,14 +126,23 @@ struct Sent {
     done: bool,
 }
 
+// The writer holds nothing back.
+fn write_out<W: Write>(writer: &mut W, bytes: &[u8]) -> Result<()> {
+    writer.write_all(bytes)?;
+    writer.flush()
+}
+
 // The one call that writes.
-fn send(bytes: &[u8]) -> Sent
+fn send<W: Write, E: Eprint>(rt: &E, writer: &mut W, bytes: &[u8]) -> Sent
     ensures { result.bytes ≡ length bytes.now }
 {
-    let done = io::write_all(STDOUT_FILENO, bytes);
-    if !done {
-        os::fail(b"lotlog: the log cannot be written");
-    }
+    let done = match write_out(writer, bytes) {
+        Ok(()) => true,
+        Err(e) => {
+            let _ = eprintln!(rt; "lotlog: the log cannot be written: {e}");
+            false
+        }
+    };
     Sent {
         bytes: bytes.len(),
         done,
@@ -135,12 +150,12 @@ fn send(bytes: &[u8]) -> Sent
 }
 
 // All that waits is written.
-fn write_waiting(turn: Turn, output: &[u8]) -> Turn
+fn write_waiting<W: Write, E: Eprint>(rt: &E, writer: &mut W, turn: Turn, output: &[u8]) -> Turn
     requires { turn.waiting ≤ length output.now }
     ensures { Written turn result }
 {
     let waiting = turn.waiting;
-    let sent = send(&output[..waiting]);
+    let sent = send(rt, writer, &output[..waiting]);
     let held = turn.state;
     let left = waiting - sent.bytes;
     Turn {
@@ -169,36 +184,57 @@ fn take_piece(turn: Turn, got: isize, input: &[u8]) -> Turn
     }
 }
 
+// What a read answers, as a number: how many bytes it brought, or one below 0 where it failed, which is said.
+fn count_read<E: Eprint>(rt: &E, read: Result<usize>, input: &[u8]) -> isize
+    requires { ReadsAtMost read input.now }
+    ensures ok { IfOk read (λ n. result ≡ pos n) }
+    ensures err { OnErr read (result <ℤ pos 0) }
+{
+    match read {
+        Ok(n) => n as isize,
+        Err(e) => {
+            let _ = eprintln!(rt; "lotlog: the input cannot be read: {e}");
+            -1
+        }
+    }
+}
+
 // The one call that reads, where the piece is used up.
-fn next_piece(turn: Turn, input: &mut [u8]) -> Turn
+fn next_piece<R: Read, E: Eprint>(rt: &E, reader: &mut R, turn: Turn, input: &mut [u8]) -> Turn
     requires { (turn.taken ≤ turn.length) × (turn.length ≤ length input.old) }
     ensures { Got turn input.old input.new result }
 {
     if turn.taken < turn.length {
         return turn;
     }
-    let got = libc::read(STDIN_FILENO, input);
-    if got < 0 {
-        os::fail(b"lotlog: the input cannot be read");
-    }
+    let read = reader.read(input);
+    let got = count_read(rt, read, input);
     take_piece(turn, got, input)
 }
 
 // A turn: what waits is written before more is read, and nothing is read after the end or after a failure.
-fn next_turn(turn: Turn, input: &mut [u8], output: &mut [u8]) -> Turn
+fn next_turn<R: Read, W: Write, E: Eprint>(
+    rt: &E,
+    reader: &mut R,
+    writer: &mut W,
+    turn: Turn,
+    input: &mut [u8],
+    output: &mut [u8],
+) -> Turn
     requires { Fits (scene turn input.old output.old) }
     ensures { Turned (scene turn input.old output.old)
         (scene result input.new output.new) }
 {
-    let sent = write_waiting(turn, output);
+    let sent = write_waiting(rt, writer, turn, output);
     if sent.failed {
         return sent;
     }
     if sent.over {
         return sent;
     }
-    let got = next_piece(sent, input);
-    if got.failed {
+    let got = next_piece(rt, reader, sent, input);
+    let cut = got.failed;
+    if cut {
         return got;
     }
     if got.over {
@@ -211,7 +247,13 @@ fn next_turn(turn: Turn, input: &mut [u8], output: &mut [u8]) -> Turn
 // A proved loop has to end, and nothing says that an input does: the turns count down from a number that no run uses
 // up. The lent memory is only worked in. The last turn is answered, and one that failed where the output is too small
 // to work in: then nothing is read or written.
-pub fn run(input: &mut [u8], output: &mut [u8]) -> Turn
+pub fn run<R: Read, W: Write, E: Eprint>(
+    rt: &E,
+    reader: &mut R,
+    writer: &mut W,
+    input: &mut [u8],
+    output: &mut [u8],
+) -> Turn
     ensures { Runs input.old output.old input.new output.new result }
 {
     if output.len() < LEAST {
@@ -227,7 +269,7 @@ pub fn run(input: &mut [u8], output: &mut [u8]) -> Turn
     let mut turn = open_log(output);
     let mut turns = u64::MAX;
     while turns > 0 {
-        turn = next_turn(turn, input, output);
+        turn = next_turn(rt, reader, writer, turn, input, output);
         if turn.failed {
             return turn;
         }
