@@ -82,7 +82,7 @@ fn staged_rule(e: &[u8], i: usize, x: u16) -> bool
     staged_number(i, m, two, one, x)
 }
 
-// floor(g·nt − h_a) ≤ At < ceiling(g·nt + h_r), without division: both sides in hundred-thousandths.
+// floor(g·nt − hA) ≤ At < ceiling(g·nt + hR), without division: both sides in hundred-thousandths.
 fn at_fits(ha: u16, hr: u16, g: u16, nt: u16, at: u16) -> bool
     ensures { result ≡ at_fits ha hr g nt at }
 {

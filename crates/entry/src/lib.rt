@@ -43,7 +43,7 @@ pub struct StagedPlan {
     pub res: [u16; 7],
 }
 
-// h_a and h_r in thousandths, g in hundred-thousandths, the last item nt and its acceptance number.
+// hA and hR in thousandths, g in hundred-thousandths, the last item nt and its acceptance number.
 #[derive(Clone, Copy)]
 pub struct SequentialPlan {
     pub ha: u16,

@@ -35,7 +35,7 @@ fn staged_range(i: usize) -> Range
     }
 }
 
-// Of a sequential entry: severity, letter, column, h_a, h_r, g and nt.
+// Of a sequential entry: severity, letter, column, hA, hR, g and nt.
 fn sequential_range(i: usize) -> Range
     ensures { range_paper result ≡ get_or sequential.ranges i anything }
 {

@@ -43,7 +43,7 @@ verdict_of : Answer Verdict → List ℕ
 verdict_of (refused n p) = n ∷ []
 verdict_of (given v) = yes_no v.accepted ∷ v.used ∷ []
 
--- h_a 1.750, h_r 2.247, g 0.0957, nt 98, At 9
+-- hA 1.750, hR 2.247, g 0.0957, nt 98, At 9
 sequence : SequentialPlan
 sequence = record { h_a = 1750; h_r = 2247; g = 9570; nt = 98; at_nt = 9 }
 
@@ -109,7 +109,7 @@ five_stages =
 staged : List ℕ → List ℕ
 staged items = verdict_of (judge_stages 10 five_stages (number_bytes items))
 
--- both lines met exactly: h_a 1, g 0.1, so that 10 clean items stand on the first; h_r 1.8, so that 2 bad ones stand on
+-- both lines met exactly: hA 1, g 0.1, so that 10 clean items stand on the first; hR 1.8, so that 2 bad ones stand on
 -- the second
 on_the_lines : SequentialPlan
 on_the_lines = record { h_a = 1000; h_r = 1800; g = 10000; nt = 50; at_nt = 4 }

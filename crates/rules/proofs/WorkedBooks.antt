@@ -95,7 +95,7 @@ cases =
     ∷ (with 25 3 is broken_at 52)
     ∷ (with 28 3 is broken_at 56)
     ∷ (with 28 5 is broken_at 56)
-    -- sequential: severity, letter, column, h_a, h_r, g, nt, At; each as low as it goes, and as high
+    -- sequential: severity, letter, column, hA, hR, g, nt, At; each as low as it goes, and as high
     ∷ (with 30 2 is sound)
     ∷ (with 30 3 is broken_at 60)
     ∷ (with 31 15 is sound)
