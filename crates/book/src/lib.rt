@@ -51,7 +51,7 @@ fn first_under(kind: usize, key: Key, part: &[u8], seen: usize, at: usize) -> us
 
 // What reading sections comes to: their end, with the place of the entry under the key (0: none is), in numbers from
 // the start.
-#[derive(Drop)]
+#[derive(Clone, Copy)]
 enum Stretch {
     Ends(usize, usize),
     Broken(usize),
@@ -162,7 +162,7 @@ fn check_sections(asked: usize, key: Key, book: &[u8]) -> Stretch
 
 // What one pass over the book finds: the byte at which it is broken, or that it is sound, with the place of the entry
 // asked for (0: none is).
-#[derive(Drop)]
+#[derive(Clone, Copy)]
 enum Whole {
     Broken(usize),
     Sound(usize),
@@ -190,7 +190,7 @@ fn check_whole(asked: usize, key: Key, book: &[u8]) -> Whole
 }
 
 // What checking a book answers.
-#[derive(Drop)]
+#[derive(Clone, Copy)]
 pub enum BookAnswer {
     Refused(u8, usize),
     Sound,
@@ -212,7 +212,7 @@ pub fn check_book(book: &[u8]) -> BookAnswer
 }
 
 // What looking up answers: the place of the entry, in numbers from the book's start.
-#[derive(Drop)]
+#[derive(Clone, Copy)]
 pub enum Found {
     Refused(u8, usize),
     At(usize),

@@ -13,7 +13,7 @@ use supply::{Moved, Supply};
 pub const BUFFER_SHORT: u8 = 11;
 
 // How many severities were written, or a refusal.
-#[derive(Drop)]
+#[derive(Clone, Copy)]
 pub enum Listed {
     Refused(u8, usize),
     Given(usize),

@@ -19,7 +19,7 @@ const CORRECTIVE: u32 = 9;
 const LARGEST: u64 = 4294967295;
 
 // What a line says.
-#[derive(Drop)]
+#[derive(Clone, Copy)]
 pub enum Line {
     // a lot: whether it is resubmitted, its size, level, column and total
     Lot(bool, u32, u32, u32, u32),
@@ -29,7 +29,7 @@ pub enum Line {
 }
 
 // A field that is a number, and where the next field starts; or another one.
-#[derive(Drop)]
+#[derive(Clone, Copy)]
 enum Field {
     Number(u32, usize),
     Other,

@@ -25,7 +25,7 @@ pub const LONGEST: usize = 45;
 const TOO_LONG: usize = 46;
 
 // What a line leaves: the record, and how many bytes it printed.
-#[derive(Drop)]
+#[derive(Clone, Copy)]
 struct Logged {
     supply: Supply,
     written: usize,
@@ -118,7 +118,7 @@ pub struct State {
 }
 
 // What is held then, how many bytes of the piece were taken, and how many bytes were printed.
-#[derive(Drop)]
+#[derive(Clone, Copy)]
 pub struct Fed {
     pub state: State,
     pub taken: usize,
@@ -168,7 +168,7 @@ fn keep(bytes: &mut [u8; LONGEST], length: usize, byte: u8) -> usize
     TOO_LONG
 }
 
-#[derive(Drop)]
+#[derive(Clone, Copy)]
 struct Gathered {
     taken: usize,
     length: usize,

@@ -25,7 +25,7 @@ fn entries_in(book: &[u8], section: u32) -> u32
 }
 
 // What counting entries answers.
-#[derive(Drop)]
+#[derive(Clone, Copy)]
 pub enum Counted {
     Refused(u8, usize),
     Entries(u32),
@@ -51,7 +51,7 @@ fn show(book: &[u8], kind: usize, nth: usize, row: &mut [u8])
 }
 
 // What reading an entry answers: how many numbers its row has.
-#[derive(Drop)]
+#[derive(Clone, Copy)]
 pub enum EntryAnswer {
     Refused(u8, usize),
     Numbers(u32),

@@ -40,7 +40,7 @@ fn list_of<'a>(
 
 // What checking rows comes to: the position of the first that is bad; or how many there are, and how many numbers they
 // take in the book.
-#[derive(Drop)]
+#[derive(Clone, Copy)]
 enum ListCheck {
     Bad(usize),
     Right(usize, usize),
@@ -221,7 +221,7 @@ fn lay_lists<'a>(
 }
 
 // What writing a book answers: how many bytes it has.
-#[derive(Drop)]
+#[derive(Clone, Copy)]
 pub enum Written {
     Refused(u8, usize),
     Bytes(usize),
