@@ -25,7 +25,8 @@ use Rattle.book.proofs.Loops.{read-ends, read-broken, read-short, ends-of, broke
 use Rattle.book.proofs.Loops.{place-none, book-opens, book-next, book-broken, book-shorts, book-done}
 
 -- what follows the four sections, which end at a place with one held
-module _ {asked : ℕ} {key : Key} {at held : ℕ} (bytes : List ℕ) (four : SectionsEnd asked key (numbers_of bytes) at held)
+module _ {asked : ℕ} {key : Key} {at held : ℕ} (bytes : List ℕ)
+    (four : SectionsEnd asked key (numbers_of bytes) at held)
   where
     abbrev len : ℕ
     len = length bytes

@@ -9,7 +9,8 @@ use borrow.Author.Tests.{eq-eqb, ne_eqb, lt-ltb, le-ltb}
 use lib.ListN.{length, get_or, take, drop, length-drop, length-take, drop_of_length-le}
 use lib.Seq.{take-nil, take-take, get_or-take}
 use Rattle.rules.specs.Numbers.{numbers_of}
-use Rattle.rules.specs.Book.{Walk, ends, broken, short, Kind, kinds, kind_at, variables, key_of, key_for, same_key, size_of}
+use Rattle.rules.specs.Book.{Walk, ends, broken, short, Kind, kinds, kind_at, variables, key_of, key_for, same_key}
+use Rattle.rules.specs.Book.{size_of}
 use Rattle.rules.specs.Book.{shift, section, sections, entry, always}
 use Rattle.rules.proofs.Bounded.{by-le}
 use Rattle.rules.proofs.Numbers.{numbers-drop, numbers-take}

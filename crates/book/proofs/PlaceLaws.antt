@@ -11,7 +11,8 @@ use lib.ListN.{length, get_or, take, drop, length-drop}
 use lib.Seq.{drop-drop}
 use Rattle.rules.specs.Refusals.{Answer, refused, given, and_then}
 use Rattle.rules.specs.Numbers.{numbers_of}
-use Rattle.rules.specs.Book.{Walk, ends, broken, short, Kind, kinds, kind_at, staged, key_of, key_for, same_key, size_of}
+use Rattle.rules.specs.Book.{Walk, ends, broken, short, Kind, kinds, kind_at, staged, key_of, key_for, same_key}
+use Rattle.rules.specs.Book.{size_of}
 use Rattle.rules.specs.Book.{sections, seek, seek_in, look_up, from_end, Found, found, nothing, staged_of}
 use Rattle.rules.specs.Book.{Checked, sound, broken_at, check_book, on_sound}
 use Rattle.rules.specs.Layout.{entry_of}
@@ -27,9 +28,11 @@ use Rattle.book.proofs.Loops.{in-near}
 
 -- what the book's answer is, by what one pass over it found
 pub by-pass : {A : Type 0} (f : ℕ → Answer A) (book : List ℕ) (p : ℕ) {r w : Whole} → r ≡ w
-    → whole_paper r ≡ on_sound (check_book book) (given p) → and_then (whole_paper w) f ≡ on_sound (check_book book) (f p)
+    → whole_paper r ≡ on_sound (check_book book) (given p)
+    → and_then (whole_paper w) f ≡ on_sound (check_book book) (f p)
 by-pass f book p e t =
-    ap (λ (x : Whole). and_then (whole_paper x) f) (sym e) ∙ ap (λ (a : Answer ℕ). and_then a f) t ∙ go (check_book book)
+    ap (λ (x : Whole). and_then (whole_paper x) f) (sym e) ∙ ap (λ (a : Answer ℕ). and_then a f) t
+    ∙ go (check_book book)
   where
     go : (c : Checked) → and_then (on_sound c (given p)) f ≡ on_sound c (f p)
     go sound = refl
@@ -147,7 +150,8 @@ module _ (j severity letter column : ℕ) (book : List ℕ) (h : j < length kind
 -- a staged plan that is found has few stages
 pub few-stages : (severity letter column : ℕ) (book : List ℕ) (at : ℕ)
     → place_held staged_section severity letter column book ≡ given at
-    → staged_read (entry_of staged (drop at (numbers_of book))) ≡ staged_of (entry_of staged (drop at (numbers_of book)))
+    → staged_read (entry_of staged (drop at (numbers_of book))) ≡ staged_of
+    (entry_of staged (drop at (numbers_of book)))
 few-stages severity letter column book at e =
     let s = entry_of staged (drop at (numbers_of book)) in
     let l : staged_section < length kinds = omega arith in

@@ -15,7 +15,8 @@ use Rattle.rules.specs.Variables.{VariablesPlan}
 use Rattle.rules.specs.Book.{Checked, sound, broken_at, check_book, on_sound, kinds, kind_at, reduced_singles}
 use Rattle.rules.specs.Book.{ReducedSingle, reduced_of}
 use Rattle.rules.specs.Layout.{entry_of}
-use Rattle.rules.specs.Entries.{Asked, asked_checks, asked_letter, looked_up, from_entry, unless_above, Lettered, lettered}
+use Rattle.rules.specs.Entries.{Asked, asked_checks, asked_letter, looked_up, from_entry, unless_above, Lettered}
+use Rattle.rules.specs.Entries.{lettered}
 use Rattle.rules.specs.Entries.{reduced_plan, single_plan, plain_plan, curtailed_plan, readings_plan}
 use Rattle.rules.proofs.Answers.{refused-then, given-one, then-given}
 use Rattle.rules.proofs.Checks.{checks-alike, asked-kept, asked-passed, asked-letter}
@@ -36,7 +37,8 @@ pub unchecked : (book : List ℕ) → SoundIf false book
 unchecked book e = absurd (false≢true e)
 
 -- only a sound book gives a plan
-pub given-sound : (section : ℕ) (q : Asked) (book : List ℕ) (a : Answer VariablesPlan) → a ≡ readings_plan section q book
+pub given-sound : (section : ℕ) (q : Asked) (book : List ℕ) (a : Answer VariablesPlan)
+    → a ≡ readings_plan section q book
     → SoundIf (is_given a) book
 unfolding readings_plan
 given-sound section q book (refused n p) e t = absurd (false≢true t)

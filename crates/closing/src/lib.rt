@@ -6,7 +6,8 @@ ghost use Rattle.std.specs.Prelude.{◌≡◌, ◌&&◌, ltb};
 ghost use Rattle.rules.specs.Refusals.{refused, and_then};
 ghost use Rattle.rules.specs.Codes.{counts_items};
 ghost use Rattle.rules.specs.Severity.{counted, sampled, single_points, earns_three, staged_points};
-ghost use Rattle.rules.specs.Entries.{asked_on, event_for, single_counts, single_event, on_supply, closed_with, total_on};
+ghost use Rattle.rules.specs.Entries.{asked_on, event_for, single_counts, single_event, on_supply, closed_with};
+ghost use Rattle.rules.specs.Entries.{total_on};
 ghost use Rattle.rules.specs.Entries.{judge_total, close_total};
 ghost use Rattle.plans.specs.Paper.{asked_paper, plan_paper, verdict_paper, beside, zero_plan};
 ghost use Rattle.severity.specs.Paper.{lot_paper, origin_paper, event_paper, record_paper};
@@ -112,7 +113,8 @@ pub fn single_event(
     verdict: Verdict,
 ) -> Event
     ensures { event_paper result
-        ≡ event_for (offered_paper lot) (origin_paper from) (single_counts (record_paper old.switching) (offered_paper lot)
+        ≡ event_for (offered_paper lot) (origin_paper from)
+        (single_counts (record_paper old.switching) (offered_paper lot)
         (judged_on (plan_paper plan) (verdict_paper verdict))) }
 {
     let tighter = plans::tighter_ac(plan.letter, lot.column);

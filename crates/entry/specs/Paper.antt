@@ -1,5 +1,6 @@
 -- Document 01's values for each case of the code's types. Definitions only.
-use Rattle.std.specs.Prelude.{ℕ, ◌+◌, ◌*◌, ◌-◌, ◌≤◌, ◌≡◌, Bool, cond, ◌&&◌, List, [], ◌++◌, leb, ltb, eqb, length, get_or, take, drop, replicate}
+use Rattle.std.specs.Prelude.{ℕ, ◌+◌, ◌*◌, ◌-◌, ◌≤◌, ◌≡◌, Bool, cond, ◌&&◌, List, [], ◌++◌, leb, ltb, eqb, length}
+use Rattle.std.specs.Prelude.{get_or, take, drop, replicate}
 use Rattle.rules.specs.Book as paper
 use Rattle.rules.specs.Book.{Kind, kind_at, size_of, key_of, key_for, rises, numbers_from, every, seven, staged_of}
 use Rattle.rules.specs.Staged as staged

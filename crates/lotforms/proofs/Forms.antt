@@ -75,7 +75,8 @@ not-again : (w : Work) → w.resubmission ≡ false → (fs : List (List ℕ))
 unfolding line_of
 not-again w e fs = simp (e, and-false, and-true)
 
-order-steady : (w : Work) (fs : List (List ℕ)) → line_of w ((steady_letter ∷ []) ∷ fs) ≡ numbers_then 1 fs (order_of 5 6)
+order-steady : (w : Work) (fs : List (List ℕ))
+    → line_of w ((steady_letter ∷ []) ∷ fs) ≡ numbers_then 1 fs (order_of 5 6)
 unfolding line_of
 order-steady w fs = simp (and-false, and-true) (one-number 5 6 steady_letter fs)
 
@@ -164,7 +165,8 @@ unknown-again w (b ∷ []) e f s q r = absurd (f refl)
 unknown-again w (b ∷ x ∷ bs) e f s q r = rw (s, q) (sym (not-again w r (split_at space bs)))
 
 pub unlettered : (w : Work) (l : List ℕ) → (length l ≡ 0 → ⊥) → (length l ≡ 1 → ⊥) → get_or l 1 0 ≡ space
-    → (get_or l 0 0 ≡ original_letter → ⊥) → (get_or l 0 0 ≡ resubmitted_letter → ⊥) → (get_or l 0 0 ≡ steady_letter → ⊥)
+    → (get_or l 0 0 ≡ original_letter → ⊥) → (get_or l 0 0 ≡ resubmitted_letter → ⊥)
+    → (get_or l 0 0 ≡ steady_letter → ⊥)
     → (get_or l 0 0 ≡ permission_letter → ⊥)
     → unknown_line ≡ line_of w (split_at space l)
 unfolding split_at line_of

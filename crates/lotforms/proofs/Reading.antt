@@ -69,7 +69,8 @@ module _ (line : List ℕ) (i : ℕ) where
   within = omega (arith, up-to-length space (drop i line), length-drop i line)
 
   pub first-byte : 0 < length (up_to_from line i) → get_or (up_to_from line i) 0 0 ≡ get_or line i 0
-  first-byte h = up-to-first space (drop i line) h ∙ get_or-drop i line 0 0 ∙ ap (λ (k : ℕ). get_or line k 0) (omega arith)
+  first-byte h =
+      up-to-first space (drop i line) h ∙ get_or-drop i line 0 0 ∙ ap (λ (k : ℕ). get_or line k 0) (omega arith)
 
   pub at-end : length line ≤ i → up_to_from line i ≡ []
   unfolding up_to
@@ -79,7 +80,8 @@ module _ (line : List ℕ) (i : ℕ) where
   unfolding up_to
   at-space h e = rw (drop-cons line i 0 h) (simp (eq-eqb (get_or line i 0) space e))
 
-  pub at-byte : i < length line → (get_or line i 0 ≡ space → ⊥) → up_to_from line i ≡ get_or line i 0 ∷ up_to_from line (i + 1)
+  pub at-byte : i < length line → (get_or line i 0 ≡ space → ⊥)
+      → up_to_from line i ≡ get_or line i 0 ∷ up_to_from line (i + 1)
   unfolding up_to
   at-byte h e = rw (drop-cons line i 0 h, add-one i) (simp (ne_eqb (get_or line i 0) space e))
 
@@ -135,7 +137,8 @@ module _ {line : List ℕ} {from i value : ℕ} (r : Reads line from i value) wh
   reads-high h s l = bad-byte h s (simp (lt-leb (get_or line i 0) digit_nine l, and-false))
 
   value-after : i < length line → (get_or line i 0 ≡ space → ⊥)
-      → value_of (up_to_from line from) ≡ value_from (10 * value + (get_or line i 0 - digit_zero)) (up_to_from line (i + 1))
+      → value_of (up_to_from line from) ≡ value_from (10 * value + (get_or line i 0 - digit_zero))
+      (up_to_from line (i + 1))
   unfolding value_from
   value-after h s = r.worth ∙ ap (value_from value) (at-byte line i h s)
 
@@ -147,7 +150,8 @@ module _ {line : List ℕ} {from i value : ℕ} (r : Reads line from i value) wh
       (rw (value-after h s)
       (omega (arith, value-least (10 * value + (get_or line i 0 - digit_zero)) (up_to_from line (i + 1))))))
 
-  pub reads-more : i < length line → (get_or line i 0 ≡ space → ⊥) → digit_zero ≤ get_or line i 0 → get_or line i 0 ≤ digit_nine
+  pub reads-more : i < length line → (get_or line i 0 ≡ space → ⊥) → digit_zero ≤ get_or line i 0
+      → get_or line i 0 ≤ digit_nine
       → 10 * value + (get_or line i 0 - digit_zero) ≤ largest_number
       → Reads line from (i + 1) (10 * value + (get_or line i 0 - digit_zero))
   unfolding all_digits
@@ -217,7 +221,8 @@ unfolding up_to rest_at
 rest-some x [] h = absurd (omega arith)
 rest-some x (b ∷ bs) h = go (eqb b x) (rest-some x bs) h
   where
-    go : (t : Bool) → (length (up_to x bs) < length bs → rest_at x bs ≡ split_at x (drop (suc (length (up_to x bs))) bs))
+    go : (t : Bool) → (length (up_to x bs) < length bs
+        → rest_at x bs ≡ split_at x (drop (suc (length (up_to x bs))) bs))
         → length (cond t [] (b ∷ up_to x bs)) < suc (length bs)
         → cond t (split_at x bs) (rest_at x bs) ≡ split_at x (drop (length (cond t [] (b ∷ up_to x bs))) bs)
     go true f g = refl
@@ -236,7 +241,8 @@ fields-next line i h =
     further : i + suc k ≡ i + k + 1
     further = omega arith
 
-    rest : rest_at space (drop i line) ≡ cond (leb (i + k + 1) (length line)) (split_at space (drop (i + k + 1) line)) []
+    rest : rest_at space (drop i line) ≡ cond (leb (i + k + 1) (length line)) (split_at space (drop (i + k + 1) line))
+        []
     rest =
         by-le (i + k + 1) (length line)
         (λ e. simp (le-leb (i + k + 1) (length line) e)

@@ -1,5 +1,6 @@
 -- A line read from left to right: its fields from a place on, and what they say. Definitions only.
-use Rattle.std.specs.Prelude.{ℕ, zero, suc, ◌+◌, ◌≤◌, ◌≡◌, Bool, true, false, cond, List, [], ◌∷◌, leb, eqb, length, get_or, drop}
+use Rattle.std.specs.Prelude.{ℕ, zero, suc, ◌+◌, ◌≤◌, ◌≡◌, Bool, true, false, cond, List, [], ◌∷◌, leb, eqb, length}
+use Rattle.std.specs.Prelude.{get_or, drop}
 use Rattle.rules.specs.History.{Work}
 use Rattle.rules.specs.Log as log
 use Rattle.rules.specs.Log.{split_at, space, is_number, value_of, all_digits, largest_number, lot_line, order_line}
@@ -54,10 +55,12 @@ numbers_then (suc k) (f ∷ fs) give =
 
 abbrev pub lot_of : Bool → List ℕ → log.Line
 lot_of again vs =
-    lot_line (record { again = again; size = get_or vs 0 0; level = get_or vs 1 0; column = get_or vs 2 0 }) (get_or vs 3 0)
+    lot_line (record { again = again; size = get_or vs 0 0; level = get_or vs 1 0; column = get_or vs 2 0 })
+    (get_or vs 3 0)
 
 abbrev pub order_of : ℕ → ℕ → List ℕ → log.Line
-order_of on_yes on_no vs = cond (leb (get_or vs 0 0) 1) (order_line (cond (eqb (get_or vs 0 0) 1) on_yes on_no)) unknown_line
+order_of on_yes on_no vs =
+    cond (leb (get_or vs 0 0) 1) (order_line (cond (eqb (get_or vs 0 0) 1) on_yes on_no)) unknown_line
 
 abbrev pub lot_from : Bool → List ℕ → ℕ → log.Line
 lot_from again line from = numbers_then 4 (fields_from line from) (lot_of again)

@@ -34,7 +34,8 @@ with-more n b bytes l = by-le (n + 1) longest_line room (λ h. by-le n longest_l
           length-take-le n bytes (omega arith),
         )
 
-    full : longest_line < n + 1 → n ≤ longest_line → begun_of (length_with n) (bytes_with n bytes b) ≡ one_more (begun_of n
+    full : longest_line < n + 1 → n ≤ longest_line
+        → begun_of (length_with n) (bytes_with n bytes b) ≡ one_more (begun_of n
         bytes) b
     full g h =
         simp

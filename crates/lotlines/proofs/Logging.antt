@@ -59,7 +59,8 @@ module _ (supply : Supply) (line : ℕ) {out last : List ℕ} {r : ℕ} where
   order-given e p = rw e (record { held = refl; shown = p })
 
   pub unknown-said : (w : Work) {said : Line} → said ≡ Unknown → Puts 0 (refused_line line unknown_form) out last r
-      → Logs (logged_as w line (supply_paper supply) (line_paper said)) out last (record { supply = supply; written = r })
+      → Logs (logged_as w line (supply_paper supply) (line_paper said)) out last
+      (record { supply = supply; written = r })
   unfolding logged_as
   unknown-said w e p = rw e (record { held = refl; shown = p })
 
@@ -67,7 +68,8 @@ module _ (supply : Supply) (line : ℕ) {out last : List ℕ} {r : ℕ} where
 module _ (w : Work) (supply : Supply) (line : ℕ) {out last : List ℕ} {r : Logged} where
   pub lot-said : (closed : SingleClosed) {said : Line} (lot : Offered) {total : ℕ}
       → said ≡ Lot lot.again lot.size lot.level lot.column total
-      → closed_beside closed ≡ beside zero_plan plan_closed (close_total (supply_paper supply) (offered_paper lot) total)
+      → closed_beside closed ≡ beside zero_plan plan_closed
+      (close_total (supply_paper supply) (offered_paper lot) total)
       → Logs (logged_lot line (supply_paper supply) (closed_beside closed).answer) out last r
       → Logs (logged_as w line (supply_paper supply) (line_paper said)) out last r
   unfolding logged_as

@@ -1,5 +1,6 @@
 -- A run, turn by turn: the bytes that its reads brought, and those that its writes were handed. Definitions only.
-use Rattle.std.specs.Prelude.{ℕ, ◌+◌, ◌<◌, ◌≤◌, ◌≡◌, true, false, cond, List, [], ◌∷◌, ◌++◌, ◌⊎◌, ltb, eqb, length, take}
+use Rattle.std.specs.Prelude.{ℕ, ◌+◌, ◌<◌, ◌≤◌, ◌≡◌, true, false, cond, List, [], ◌∷◌, ◌++◌, ◌⊎◌, ltb, eqb, length}
+use Rattle.std.specs.Prelude.{take}
 use Rattle.rules.specs.History.{ours}
 use Rattle.rules.specs.Feeding.{onwards}
 use Rattle.lottexts.specs.Printing.{line_room}

@@ -52,7 +52,8 @@ normal-read : (l : Lot) (ls : List Lot) (st pe : Bool)
     → lot_normal l (score_of ls) (bits_of (take 5 ls)) st pe ≡ record_of st pe (read_normal l ls st pe)
 normal-read l ls st pe =
     rw (window-bits l ls, score-read l ls, ones-bits (take 5 (l ∷ ls)))
-    (chosen (not (accepted l) && leb 2 (not_accepted_in (take 5 (l ∷ ls)))) tightened st pe _ (read_settled (l ∷ ls) st pe)
+    (chosen (not (accepted l) && leb 2 (not_accepted_in (take 5 (l ∷ ls)))) tightened st pe _
+    (read_settled (l ∷ ls) st pe)
     (settled-read (l ∷ ls) st pe))
 
 tightened-read : (l : Lot) (ls : List Lot) (st pe : Bool)
@@ -60,7 +61,8 @@ tightened-read : (l : Lot) (ls : List Lot) (st pe : Bool)
 unfolding figures_of run_of not_accepted_in
 tightened-read add_three ls st pe =
     chosen (leb 5 (suc (run_of ls))) normal st pe _ (stay_of tightened (add_three ∷ ls)) refl
-tightened-read add_two ls st pe = chosen (leb 5 (suc (run_of ls))) normal st pe _ (stay_of tightened (add_two ∷ ls)) refl
+tightened-read add_two ls st pe =
+    chosen (leb 5 (suc (run_of ls))) normal st pe _ (stay_of tightened (add_two ∷ ls)) refl
 tightened-read score_zero ls st pe =
     chosen (leb 5 (suc (run_of ls))) normal st pe _ (stay_of tightened (score_zero ∷ ls)) refl
 tightened-read not_accepted ls st pe =

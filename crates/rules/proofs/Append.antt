@@ -38,7 +38,8 @@ append r (e ∷ later) es =
     go : (a : Answer Record)
         → and_then (and_then a (λ t. further_on (length es) (after_from t later)))
         (λ u. placed (length later + length es) (step u e))
-        ≡ and_then a (λ t. further_on (length es) (and_then (after_from t later) (λ u. placed (length later) (step u e))))
+        ≡ and_then a (λ t. further_on (length es)
+        (and_then (after_from t later) (λ u. placed (length later) (step u e))))
     go (refused n p) = refl
     go (given t) = goes-on (length es) (length later) e (after_from t later)
 

@@ -38,7 +38,8 @@ module _ (k : Kind) (r : Rowed k) (before row : List ℕ) where
   pub right-has-none : row_right k before row ≡ true → RowFault k before row → ⊥
   right-has-none h (cut_short l) = omega (arith, (right-so k r before row h).whole)
   right-has-none h (refused_at p f) =
-      let t : Tells (EntryFault k before (entry_in_row k row)) (size_of k (entry_in_row k row)) (length (entry_in_row k row))
+      let t : Tells (EntryFault k before (entry_in_row k row)) (size_of k (entry_in_row k row))
+      (length (entry_in_row k row))
       (ends (size_of k row)) = rw (right-so k r before row h).ends_so at told in
       t.1.1 p f
 
@@ -47,7 +48,8 @@ module _ (k : Kind) (r : Rowed k) (before row : List ℕ) where
   wrong-has-one h = go (leb k.width (length row)) (entry k before (entry_in_row k row)) refl h told
     where
       go : (t : Bool) (w : Walk) → leb k.width (length row) ≡ t → t && is_end w ≡ false
-          → Tells (EntryFault k before (entry_in_row k row)) (size_of k (entry_in_row k row)) (length (entry_in_row k row)) w
+          → Tells (EntryFault k before (entry_in_row k row)) (size_of k (entry_in_row k row))
+          (length (entry_in_row k row)) w
           → RowFault k before row
       go false w e q t = cut_short (leb-false k.width (length row) e)
       go true (ends p) e q t = absurd (true≢false q)

@@ -166,7 +166,8 @@ newest-clean (suc k) letter column (o ∷ os) =
         (λ m. absurd (omega arith), λ n. absurd (false≢true (sym h ∙ (is-clean letter column o).1 n.0)))
 
 -- .. and so the clean run says, as far as it is on that plan.
-pub clean-before : (v letter column : ℕ) → has_fractional_plan v column letter ≡ true → (os : List Origin) (k : ℕ) → k ≤ 2
+pub clean-before : (v letter column : ℕ) → has_fractional_plan v column letter ≡ true → (os : List Origin) (k : ℕ)
+    → k ≤ 2
     → (k ≤ run_on (clean_of v os) letter column) ↔ NewestClean k letter column os
 clean-before v letter column fraction os k few =
     let e = run-on v letter column fraction os in

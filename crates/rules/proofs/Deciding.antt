@@ -395,7 +395,8 @@ module _ (column : ℕ) (plan : StagedPlan) (sample : List ℕ) where
   pub stages-report : Reports 7 (SampleRows (EndsAtStage column plan sample) (MeetsInStage column plan sample))
       (judge_stages column plan sample)
   stages-report =
-      sample-reports (EndsAtStage column plan sample) (MeetsInStage column plan sample) (judge_stages column plan sample)
+      sample-reports (EndsAtStage column plan sample) (MeetsInStage column plan sample)
+      (judge_stages column plan sample)
       (stages-decided column plan sample)
       (λ m.
       as-stages column plan sample
@@ -408,7 +409,8 @@ module _ (column : ℕ) (plan : StagedPlan) (sample : List ℕ) where
 -- Where the last stage decides every total, as in a sound book, no sample runs past its stages.
 pub never-runs-out : (plan : StagedPlan) → 0 < plan.stages
     → ((total : ℕ) → stage_decides (stage_at plan (plan.stages - 1)) total ≡ goes_on → ⊥) → (xs : List ℕ)
-    → ((i : ℕ) → i < plan.stages → stage_decides (stage_at plan i) (sum_of (take (size_of_first (suc i) plan) xs)) ≡ goes_on)
+    → ((i : ℕ) → i < plan.stages → stage_decides (stage_at plan i) (sum_of (take (size_of_first (suc i) plan) xs))
+    ≡ goes_on)
     → ⊥
 never-runs-out plan some decides xs go = decides _ (go (plan.stages - 1) (omega arith))
 

@@ -187,7 +187,8 @@ module _ (k : Kind) (before : List ℕ) (n : ℕ) (ws : List ℕ) where
             among = omega arith;
             place = f.place;
             stands = refl;
-            fault = rw (← key-next k before ws i, drop-drop (entry_at k i (drop (size_of k ws) ws)) (size_of k ws) ws) x;
+            fault =
+                rw (← key-next k before ws i, drop-drop (entry_at k i (drop (size_of k ws) ws)) (size_of k ws) ws) x;
           })
 
   entries-join : (q : ℕ) → Either (EntryFault k before ws) Rest (size_of k ws) q → EntriesFault k before (suc n) ws q
@@ -302,7 +303,8 @@ sections-tell (k ∷ ks) deep ws =
 
 -- a section starts where the one before it ends
 pub section-next : (ks : List Kind) (j : ℕ) (ws : List ℕ) → j < length ks
-    → section_at ks (suc j) ws ≡ section_at ks j ws + section_size (get_or ks j variables) (drop (section_at ks j ws) ws)
+    → section_at ks (suc j) ws ≡ section_at ks j ws + section_size (get_or ks j variables)
+    (drop (section_at ks j ws) ws)
 unfolding section_at
 section-next [] j ws h = let z : ⊥ = omega arith in absurd z
 section-next (k ∷ ks) zero ws h = omega arith

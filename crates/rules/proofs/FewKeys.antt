@@ -195,7 +195,8 @@ entry-near (k ∷ ks) all j p rows q e =
     go : (check_lists ks (suc j) (p + length (rows j)) rows ≡ broken_at q
         → q ≤ p + length (rows j) + 2028 * length ks)
         → (c : Checked) → check_rows k p [] (rows j) ≡ c
-        → sound_then c (check_lists ks (suc j) (p + length (rows j)) rows) ≡ broken_at q → q ≤ p + 2028 * length (k ∷ ks)
+        → sound_then c (check_lists ks (suc j) (p + length (rows j)) rows) ≡ broken_at q
+        → q ≤ p + 2028 * length (k ∷ ks)
     go ih sound f h = omega (arith, few-right k (all 0 (omega arith)) p (rows j) f, ih h)
     go ih (broken_at b) f h =
         let same : b ≡ q = cc in

@@ -87,7 +87,8 @@ module _ (q : Asked) (book : List ℕ) (good : check_book book ≡ sound) (lot :
       (staged-plan-given q book (staged_of e)).1
       (supplies staged_section _ staged_of q book (omega arith) good lot e x u fits)
 
-  pub sequential-supplies : EntryIn sequential_section (numbers_of book) e → UnderKey q e → (sequential_of e).nt ≤ q.size
+  pub sequential-supplies : EntryIn sequential_section (numbers_of book) e → UnderKey q e
+      → (sequential_of e).nt ≤ q.size
       → sequential_plan q book ≡ given (sequential_of e)
   sequential-supplies x u fits =
       (sequential-plan-given q book (sequential_of e)).1
@@ -119,7 +120,8 @@ module _ (q : Asked) (book : List ℕ) where
 
   -- the last stage decides, so that no sample on such a plan runs past its stages
   pub staged-in-time : (p : StagedPlan) → staged_plan q book ≡ given p → (xs : List ℕ)
-      → ((i : ℕ) → i < p.stages → stage_decides (stage_at p i) (sum_of (take (size_of_first (suc i) p) xs)) ≡ goes_on) → ⊥
+      → ((i : ℕ) → i < p.stages → stage_decides (stage_at p i) (sum_of (take (size_of_first (suc i) p) xs)) ≡ goes_on)
+      → ⊥
   staged-in-time p h =
       let r = staged-given p h in
       never-runs-out p (omega (arith, r.few.0)) (staged-decides p r)
@@ -193,7 +195,8 @@ unfolding ac_below box_at
 ac-all = tt
 
 -- a plan at a letter, cut to the lot
-letter-right : (size letter ac : ℕ) → 2 ≤ size → letter < 17 → ac ≤ 65534 → SingleRight (plan_at size (landed letter ac))
+letter-right : (size letter ac : ℕ) → 2 ≤ size → letter < 17 → ac ≤ 65534
+    → SingleRight (plan_at size (landed letter ac))
 unfolding in_table
 letter-right size letter ac z l low =
     let t = all-at 17 in_table all-in-table letter l in

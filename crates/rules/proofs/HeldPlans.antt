@@ -111,7 +111,8 @@ reduced-held q two e h =
       sizes = cut-fits q.size (letter_of q.size q.level) (get_or e 2 0) (get_or e 3 0) two;
     }
 
-fits-accepts : (h_a h_r g nt x d : ℕ) → at_fits h_a h_r g nt x ≡ true → leb (100000 * d + 100 * h_a) (g * nt) ≡ true → d ≤ x
+fits-accepts : (h_a h_r g nt x d : ℕ) → at_fits h_a h_r g nt x ≡ true → leb (100000 * d + 100 * h_a) (g * nt) ≡ true
+    → d ≤ x
 unfolding at_fits
 fits-accepts h_a h_r g nt x d f h =
     let a : (g * nt - 100 * h_a) / 100000 ≤ x =
@@ -120,7 +121,8 @@ fits-accepts h_a h_r g nt x d f h =
     let b : 100000 * d + 100 * h_a ≤ g * nt = leb-true (100000 * d + 100 * h_a) (g * nt) h in
     omega arith
 
-fits-rejects : (h_a h_r g nt x d : ℕ) → at_fits h_a h_r g nt x ≡ true → leb (g * nt + 100 * h_r) (100000 * d) ≡ true → x < d
+fits-rejects : (h_a h_r g nt x d : ℕ) → at_fits h_a h_r g nt x ≡ true → leb (g * nt + 100 * h_r) (100000 * d) ≡ true
+    → x < d
 unfolding at_fits
 fits-rejects h_a h_r g nt x d f h =
     let a : x < (g * nt + 100 * h_r + 99999) / 100000 =
@@ -143,9 +145,11 @@ sequential-held e h =
       nt = in-range sequential e h 6 (omega arith);
       at_nt = (in-range sequential e h 7 (omega arith)).1;
       accepts =
-          λ d. fits-accepts (get_or e 3 0) (get_or e 4 0) (get_or e 5 0) (get_or e 6 0) (get_or e 7 0) d (sequential-fits e h);
+          λ d. fits-accepts (get_or e 3 0) (get_or e 4 0) (get_or e 5 0) (get_or e 6 0) (get_or e 7 0) d
+          (sequential-fits e h);
       rejects =
-          λ d. fits-rejects (get_or e 3 0) (get_or e 4 0) (get_or e 5 0) (get_or e 6 0) (get_or e 7 0) d (sequential-fits e h);
+          λ d. fits-rejects (get_or e 3 0) (get_or e 4 0) (get_or e 5 0) (get_or e 6 0) (get_or e 7 0) d
+          (sequential-fits e h);
     }
 
 -- .. and At is no more than between the lines: what agrees with both is held
@@ -205,5 +209,6 @@ no-higher-column book good j l h severity letter column c = go (look_up j severi
         let top : get_or e 2 0 ≤ 15 = rw k.1 at r.1 in
         let key : take 3 e ≡ severity ∷ letter ∷ column ∷ [] =
         rw k.0 at (found-under book good j h severity letter column e q) in
-        let same : get_or e 2 0 ≡ column = sym (get_or-take 3 e 2 0 (omega arith)) ∙ ap (λ (x : List ℕ). get_or x 2 0) key in
+        let same : get_or e 2 0 ≡ column = sym (get_or-take 3 e 2 0 (omega arith))
+        ∙ ap (λ (x : List ℕ). get_or x 2 0) key in
         let z : ⊥ = omega arith in absurd z

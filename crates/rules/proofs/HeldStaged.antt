@@ -123,7 +123,8 @@ module _ (e : List ℕ) (h : Held staged e) where
       let inside : i < length e = omega (arith, h.whole) in
       sym (staged-at e i (get_or e i 0) inside l) ∙ keeps-rule staged e h i u
 
-  entry-by-stage : ByStage m (λ j. get_or e (4 + j) 0) (λ j. get_or e (4 + m + 2 * j) 0) (λ j. get_or e (5 + m + 2 * j) 0)
+  entry-by-stage : ByStage m (λ j. get_or e (4 + j) 0) (λ j. get_or e (4 + m + 2 * j) 0)
+      (λ j. get_or e (5 + m + 2 * j) 0)
   entry-by-stage =
       record {
         few = in-range staged e h 3 (omega arith);

@@ -28,7 +28,8 @@ module _ (w : Work) (h : List ℕ) where
 
     pub from-suc : (i : ℕ) → From (suc i) ≡ and_then (From i) (λ t. placed i (step t (event_in w (get_or h i 0))))
     unfolding after_from past
-    from-suc i = ap (λ (k : ℕ). and_then (From i) (λ t. placed k (step t (event_in w (get_or h i 0))))) (length-past w h i)
+    from-suc i =
+        ap (λ (k : ℕ). and_then (From i) (λ t. placed k (step t (event_in w (get_or h i 0))))) (length-past w h i)
 
     pub from-first : (r : Record) → r ≡ start → From 0 ≡ given r
     unfolding after_from past

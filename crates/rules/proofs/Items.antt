@@ -51,7 +51,8 @@ module _ (column : ℕ) where
       → (any_illegal column (take k xs) ≡ false) × (any_illegal column (drop k xs) ≡ false)
   legal-split k xs e = legal-parts (take k xs) (drop k xs) (rw take-append-drop e)
 
-  pub legal-join : (k : ℕ) (xs : List ℕ) → any_illegal column (take k xs) ≡ false → any_illegal column (drop k xs) ≡ false
+  pub legal-join : (k : ℕ) (xs : List ℕ) → any_illegal column (take k xs) ≡ false
+      → any_illegal column (drop k xs) ≡ false
       → any_illegal column xs ≡ false
   legal-join k xs e f = rw take-append-drop at (legal-append (take k xs) (drop k xs) e f)
 

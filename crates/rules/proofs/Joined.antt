@@ -107,7 +107,8 @@ sides-join section q lower book = on (check_book book)
         → on_sound c (first_of (asked_checks (under_column q (max q.column lower)))
         (from_entry (looked_up section q book)
         (λ e.
-        from_entry (looked_up section (under_column q lower) book) (λ d. from_sides q (variables_of e) (variables_of d)))))
+        from_entry (looked_up section (under_column q lower) book)
+        (λ d. from_sides q (variables_of e) (variables_of d)))))
         ≡ join_sides (on_sound c (first_of (asked_checks q) (alone q (looked_up section q book))))
         (on_sound c
         (first_of (asked_checks (under_column q lower)) (alone q (looked_up section (under_column q lower) book))))

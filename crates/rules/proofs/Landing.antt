@@ -79,7 +79,8 @@ sends (number ac) letter to next ends = eqb letter to
 
 aim : ℕ → ℕ → ℕ → ℕ → Bool
 aim severity column letter to =
-    sends (box_at severity column letter) letter to (straight severity column) (holds_number (box_at severity column to))
+    sends (box_at severity column letter) letter to (straight severity column)
+    (holds_number (box_at severity column to))
     && (leb to (15 + severity) && leb to (letter + 15))
 
 aims : ℕ → ℕ → ℕ → Bool

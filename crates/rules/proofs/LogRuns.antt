@@ -44,7 +44,8 @@ held-ran w line cs (l ∷ ls) =
 
 -- It is what later lines are answered on.
 pub log-goes-on : (w : Work) (line : ℕ) (s : Supply) (ls later : List (List ℕ))
-    → log_from w line s (ls ++ later) ≡ log_from w line s ls ++ log_from w (line_from line ls) (held_from w line s ls) later
+    → log_from w line s (ls ++ later) ≡ log_from w line s ls ++ log_from w (line_from line ls) (held_from w line s ls)
+    later
 unfolding log_from held_from line_from
 log-goes-on w line s [] later = refl
 log-goes-on w line s (l ∷ ls) later =

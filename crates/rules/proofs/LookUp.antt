@@ -229,7 +229,8 @@ rises-trans (x ∷ a) (y ∷ b) (z ∷ c) h g =
 module _ (k : Kind) (deep : Deep k) (before ws : List ℕ) (s : ℕ) (e : entry k before ws ≡ ends s) where
   entry-told : (size_of k ws ≤ length ws) × ((q : ℕ) → EntryFault k before ws q → ⊥)
   entry-told =
-      let t : Tells (EntryFault k before ws) (size_of k ws) (length ws) (ends s) = rw e at (entry-tells k deep before ws)
+      let t : Tells (EntryFault k before ws) (size_of k ws) (length ws) (ends s) = rw e at
+      (entry-tells k deep before ws)
       in
       t.1
 
@@ -282,7 +283,8 @@ not-same a b h = go (same_key a b) refl
 
 -- so the entry under a key is found
 seek-finds : (k : Kind) → Deep k → (n : ℕ) (before ws : List ℕ) (p : ℕ) → entries k n before ws ≡ ends p
-    → (i : ℕ) → i < n → seek k (key_of k (drop (entry_at k i ws) ws)) n ws ≡ found (entry_of k (drop (entry_at k i ws) ws))
+    → (i : ℕ) → i < n → seek k (key_of k (drop (entry_at k i ws) ws)) n ws
+    ≡ found (entry_of k (drop (entry_at k i ws) ws))
 unfolding seek entry_at entries
 seek-finds k deep zero before ws p e i l = let z : ⊥ = omega arith in absurd z
 seek-finds k deep (suc n) before ws p e zero l = rw (same-self (key_of k ws))
@@ -313,7 +315,8 @@ record Sought (k : Kind) (key : List ℕ) (n : ℕ) (ws e : List ℕ) : Type 0 w
 seek-sought : (k : Kind) (key : List ℕ) (n : ℕ) (ws e : List ℕ) → seek k key n ws ≡ found e → Sought k key n ws e
 unfolding seek entry_at
 seek-sought k key zero ws e h = let z : ◌≡◌ {A = ℕ} 0 1 = cc in let y : ⊥ = omega arith in absurd y
-seek-sought k key (suc n) ws e h = go (same_key (key_of k ws) key) refl h (seek-sought k key n (drop (size_of k ws) ws) e)
+seek-sought k key (suc n) ws e h =
+    go (same_key (key_of k ws) key) refl h (seek-sought k key n (drop (size_of k ws) ws) e)
   where
     go : (t : Bool) → same_key (key_of k ws) key ≡ t
         → cond t (found (entry_of k ws)) (seek k key n (drop (size_of k ws) ws)) ≡ found e
@@ -408,7 +411,8 @@ module _ (bytes : List ℕ) (good : check_book bytes ≡ sound) (j : ℕ) (withi
       (seek-finds k deep (get_or start 0 0) [] (drop 1 start) entries-end.end entries-end.is x.nth x.among)
 
   -- What is found is an entry of the section, under the key asked.
-  pub found-in : (severity letter column : ℕ) (e : List ℕ) → look_up j severity letter column (numbers_of bytes) ≡ found e
+  pub found-in : (severity letter column : ℕ) (e : List ℕ)
+      → look_up j severity letter column (numbers_of bytes) ≡ found e
       → EntryIn j (numbers_of bytes) e
   found-in severity letter column e h =
       let s = seek-sought k (key_for k severity letter column) (get_or start 0 0) (drop 1 start) e

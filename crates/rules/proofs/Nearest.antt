@@ -33,7 +33,8 @@ stands : {P : Type 0} (severity column s : ℕ) → T (stands_at severity column
 unfolding stands_at
 stands {P} severity column s t f g = go (eqb s (zero_at severity)) refl t
   where
-    go : (b : Bool) → eqb s (zero_at severity) ≡ b → T (b || (leb (one_at severity) s && leb s (last_number column))) → P
+    go : (b : Bool) → eqb s (zero_at severity) ≡ b → T (b || (leb (one_at severity) s && leb s (last_number column)))
+        → P
     go true e t = f (eqb→eq _ _ (rw e tt))
     go false e t =
         g (leb→le _ _ (both_left (leb (one_at severity) s) _ t)) (leb→le _ _ (both-right (leb (one_at severity) s) _ t))

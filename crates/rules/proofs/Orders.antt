@@ -40,7 +40,8 @@ pub permission-ordered : (start b : Bool) (es : List Event) → permission_in st
 unfolding permission_in
 permission-ordered start b es = refl
 
-pub steady-stays : (e : Event) (es : List Event) → ((b : Bool) → e ≡ steady_is b → ⊥) → steady_in (e ∷ es) ≡ steady_in es
+pub steady-stays : (e : Event) (es : List Event) → ((b : Bool) → e ≡ steady_is b → ⊥)
+    → steady_in (e ∷ es) ≡ steady_in es
 unfolding steady_in
 steady-stays (lot o l) es n = refl
 steady-stays resubmitted es n = refl
@@ -187,6 +188,7 @@ orders_cases =
     ∷ []
 
 pub orders-outlive-stays : AllAsSaid orders_cases
-unfolding orders_cases endings severity_in after_from past event_in event_of step on_lot on_resubmitted on_order on_corrective
-    stay_after steady_in permission_in not_accepted_in run_of points_of read_lot read_order read_event lib.Count.ones
+unfolding orders_cases endings severity_in after_from past event_in event_of step on_lot on_resubmitted on_order
+    on_corrective stay_after steady_in permission_in not_accepted_in run_of points_of read_lot read_order read_event
+    lib.Count.ones
 orders-outlive-stays = refl

@@ -136,9 +136,9 @@ point_cases =
 
 -- Lots closed at each edge of the points of single plans, and lots typed as bytes.
 pub closed-points : AllAsSaid point_cases
-unfolding point_cases by_total by_byte from_five offered figures closed_as typed_as close_total next judge_total plain_plan
-    table_plan landing box_at tighter_ac letter_of row_of row_from move clean_in_range step on_lot figures_in_range event_in event_of
-    lib.Count.ones
+unfolding point_cases by_total by_byte from_five offered figures closed_as typed_as close_total next judge_total
+    plain_plan table_plan landing box_at tighter_ac letter_of row_of row_from move clean_in_range step on_lot
+    figures_in_range event_in event_of lib.Count.ones
 closed-points = refl
 
 -- a tightened record
@@ -204,10 +204,9 @@ staged_cases =
 
 -- Lots closed at each edge of the points of staged plans.
 pub staged-points-closed : AllAsSaid staged_cases
-unfolding staged_cases by_stages accepted_after by_five from_five on_tight offered of_b figures closed_as of_three number_bytes
-    in_stages rising close_staged judge_staged letter_of row_of row_from staged_plan check_book numbers_of checked_as sections
-    fifth all_sections section entries entry shift then_from key_falls rises numbers_from right staged_rule staged_number
-    ac_keeps re_keeps same_key seek seek_in look_up every total_size judge_stages staged_from stages_from stage_decides take_items
-    move
-    clean_in_range step on_lot on_resubmitted figures_in_range lib.Count.ones
+unfolding staged_cases by_stages accepted_after by_five from_five on_tight offered of_b figures closed_as of_three
+    number_bytes in_stages rising close_staged judge_staged letter_of row_of row_from staged_plan check_book numbers_of
+    checked_as sections fifth all_sections section entries entry shift then_from key_falls rises numbers_from right
+    staged_rule staged_number ac_keeps re_keeps same_key seek seek_in look_up every total_size judge_stages staged_from
+    stages_from stage_decides take_items move clean_in_range step on_lot on_resubmitted figures_in_range lib.Count.ones
 staged-points-closed = refl

@@ -252,7 +252,8 @@ abbrev GivesInRange : Answer Record → Type 0
 GivesInRange (refused n p) = Unit {0}
 GivesInRange (given r) = in_range r ≡ true
 
-lot-range : (s : ℕ) (l : Lot) (r : Record) → figures_in_range s r ≡ true → in_range r ≡ true → GivesInRange (on_lot s l r)
+lot-range : (s : ℕ) (l : Lot) (r : Record) → figures_in_range s r ≡ true → in_range r ≡ true
+    → GivesInRange (on_lot s l r)
 unfolding on_lot
 lot-range zero l r f h =
     let w = within 0 r f in

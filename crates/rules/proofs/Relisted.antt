@@ -28,10 +28,10 @@ output =
     ++ ascii "5 T J 80 1 reject T 0\n6 T J 80 1 accept T 0\n7 T J 80 1 reject T 0\n"
 
 pub listing : log ours input ≡ output
-unfolding input output log log_from logged_as line_of split_at dropping_empty_last all_digits value_from is_number digits_from
-    printed next move clean_in_range close_total judge_total plain_plan table_plan landing box_at tighter_ac letter_of row_of
-    row_from step on_lot
-    on_resubmitted on_order on_corrective figures_in_range event_in event_of lib.Count.ones
+unfolding input output log log_from logged_as line_of split_at dropping_empty_last all_digits value_from is_number
+    digits_from printed next move clean_in_range close_total judge_total plain_plan table_plan landing box_at tighter_ac
+    letter_of row_of row_from step on_lot on_resubmitted on_order on_corrective figures_in_range event_in event_of
+    lib.Count.ones
 listing = refl
 
 -- "S (steady) and P (permission), each with 0 for no or 1 for yes": what is held after such lines, 1 for yes
@@ -50,6 +50,7 @@ order_cases =
     ∷ []
 
 pub orders-by-line : AllAsSaid order_cases
-unfolding order_cases held_at standing held_from logged_as line_of split_at dropping_empty_last all_digits value_from is_number
-    digits_from printed next move clean_in_range step on_order figures_in_range event_in event_of lib.Count.ones
+unfolding order_cases held_at standing held_from logged_as line_of split_at dropping_empty_last all_digits value_from
+    is_number digits_from printed next move clean_in_range step on_order figures_in_range event_in event_of
+    lib.Count.ones
 orders-by-line = refl

@@ -94,7 +94,8 @@ unfolding all_in_gauge
 out-means [] e = absurd (false≢true (sym e))
 out-means (x ∷ xs) e = on (in_gauge x) refl e (out-means xs)
   where
-    on : (t : Bool) → in_gauge x ≡ t → (t && all_in_gauge xs) ≡ false → (all_in_gauge xs ≡ false → OutAt xs) → OutAt (x ∷ xs)
+    on : (t : Bool) → in_gauge x ≡ t → (t && all_in_gauge xs) ≡ false → (all_in_gauge xs ≡ false → OutAt xs)
+        → OutAt (x ∷ xs)
     on true i f more =
         let m = more f in
         record { place = suc m.place; there = suc-le-suc m.there; out = m.out }

@@ -214,7 +214,8 @@ module _ {column : ℕ} {p : StagedPlan} {s : List ℕ} {i used total : ℕ} (w 
             judge_stages column p s
             ≡ decided (stage_decides (stage_at p i) t)
             (λ a.
-            ended (half_left s) (drop (used + size) (numbers_of s)) (staged_verdict (after p (i + 1) (used + size)) t a))
+            ended (half_left s) (drop (used + size) (numbers_of s))
+            (staged_verdict (after p (i + 1) (used + size)) t a))
             (staged_from column (half_left s) (stages_from (p.stages - (i + 1)) (i + 1) p)
             (after p (i + 1) (used + size)) t
             (drop (used + size) (numbers_of s)))

@@ -27,11 +27,13 @@ key-three =
 -- an entry of each kind is longer than its key
 pub entry-deep : (n : ℕ) → n < 5 → (x : ℕ) → (kind_at n).key < (kind_at n).size x
 entry-deep =
-    each-kind (λ n. (x : ℕ) → (kind_at n).key < (kind_at n).size x) (λ x. omega arith) (λ x. omega arith) (λ x. omega arith)
+    each-kind (λ n. (x : ℕ) → (kind_at n).key < (kind_at n).size x) (λ x. omega arith) (λ x. omega arith)
+    (λ x. omega arith)
     (λ x. omega arith) (λ x. omega arith)
 
 -- "0 to 15 in 3 and 4", and in the fifth, "laid out as the fourth"
-pub item-columns : (n : ℕ) → n < 5 → 2 ≤ n → ((kind_at n).key ≡ 3) × (get_or (kind_at n).ranges 2 anything ≡ item_column)
+pub item-columns : (n : ℕ) → n < 5 → 2 ≤ n
+    → ((kind_at n).key ≡ 3) × (get_or (kind_at n).ranges 2 anything ≡ item_column)
 item-columns =
     each-kind (λ n. 2 ≤ n → ((kind_at n).key ≡ 3) × (get_or (kind_at n).ranges 2 anything ≡ item_column))
     (λ h. let z : ⊥ = omega arith in absurd z) (λ h. let z : ⊥ = omega arith in absurd z) (λ h. (refl, refl))

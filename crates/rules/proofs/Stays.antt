@@ -38,7 +38,8 @@ pub run-not-accepted : (l : Lot) (ls : List Lot) → accepted l ≡ false
 unfolding run_of not_accepted_in
 run-not-accepted l ls e = rw e (refl, refl)
 
-few-bound : (e : Event) (ls : List Lot) → Few ls → (length (lots_with e ls) ≤ 25) × (not_accepted_in (lots_with e ls) ≤ 5)
+few-bound : (e : Event) (ls : List Lot) → Few ls
+    → (length (lots_with e ls) ≤ 25) × (not_accepted_in (lots_with e ls) ≤ 5)
 few-bound (lot o l) ls h = go (accepted l) refl
   where
     go : (d : Bool) → accepted l ≡ d → (length (l ∷ ls) ≤ 25) × (not_accepted_in (l ∷ ls) ≤ 5)

@@ -61,7 +61,13 @@ module _ (a b : List ℕ) (i : ℕ) where
   unfolding rises
   rises-more h l r =
       let q : get_or b i 0 ≤ get_or a i 0 = omega arith in
-      rw (drop-cons a i 0 h, drop-cons b i 0 l, le-ltb (get_or a i 0) (get_or b i 0) q, lt-ltb (get_or b i 0) (get_or a i 0) r)
+      rw (
+        drop-cons a i 0 h,
+        drop-cons b i 0 l,
+        le-ltb (get_or a i 0) (get_or b i 0) q,
+        lt-ltb (get_or b i 0)
+            (get_or a i 0) r,
+      )
 
   pub rises-same : i < length a → i < length b → get_or b i 0 ≤ get_or a i 0 → get_or a i 0 ≤ get_or b i 0
       → rises (drop i a) (drop i b) ≡ rises (drop (i + 1) a) (drop (i + 1) b)
@@ -277,7 +283,8 @@ module _ (e : List ℕ) (i x : ℕ) (h : i < length e) where
   seen : length (take i e) ≡ i
   seen = length-take-le i e (omega arith)
 
-  pub sequential-at : i ≡ 7 → sequential_rule (take i e) x ≡ at_fits (get_or e 3 0) (get_or e 4 0) (get_or e 5 0) (get_or e 6 0) x
+  pub sequential-at : i ≡ 7 → sequential_rule (take i e) x ≡ at_fits (get_or e 3 0) (get_or e 4 0) (get_or e 5 0)
+      (get_or e 6 0) x
   unfolding sequential_rule
   sequential-at q =
       rw (
@@ -297,7 +304,8 @@ module _ (e : List ℕ) (i x : ℕ) (h : i < length e) where
   unfolding staged_rule
   staged-free q = rw (seen, lt-ltb i 4 q)
 
-  pub staged-at : 4 ≤ i → staged_rule (take i e) x ≡ staged_number i (get_or e 3 0) (get_or e (i - 2) 0) (get_or e (i - 1) 0) x
+  pub staged-at : 4 ≤ i
+      → staged_rule (take i e) x ≡ staged_number i (get_or e 3 0) (get_or e (i - 2) 0) (get_or e (i - 1) 0) x
   unfolding staged_rule
   staged-at q =
       rw (

@@ -86,7 +86,8 @@ after-range before after c e h = go (eqb after before) refl
     go false q = no-run-range after
 
 -- A supply in range stays in range.
-pub took-range : (s : Supply) (e : Event) (t : Supply) → supply_in_range s ≡ true → Took s e t → supply_in_range t ≡ true
+pub took-range : (s : Supply) (e : Event) (t : Supply) → supply_in_range s ≡ true → Took s e t
+    → supply_in_range t ≡ true
 took-range s e t h k =
     let r = step-range s.switching e t.switching (and-left (in_range s.switching) _ h) k.stepped in
     let c = after-range s.switching.severity t.switching.severity s.clean e

@@ -106,7 +106,8 @@ tightened-turns l ls h =
     h
 
 module _ (st pe : Bool) (ls : List Lot) where
-  lot-turns : (s : ℕ) (l : Lot) → (s ≡ reduced → ⊥) → (read_lot s l ls st pe).severity ≡ reduced → Turns s (l ∷ ls) st pe
+  lot-turns : (s : ℕ) (l : Lot) → (s ≡ reduced → ⊥) → (read_lot s l ls st pe).severity ≡ reduced
+      → Turns s (l ∷ ls) st pe
   unfolding read_lot
   lot-turns zero l n h = normal-turns l ls st pe h
   lot-turns (suc zero) l n h = absurd (tightened-turns l ls h)

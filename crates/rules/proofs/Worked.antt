@@ -91,9 +91,9 @@ starred_cases =
 
 -- The starred cases, together.
 pub starred : AllAsSaid starred_cases
-unfolding starred_cases landed_at yes_no verdict_of sequence after_ninety readings ends letter_of row_of row_from landing
-    box_at sequential_from item_decides accepts_readings within_spread margin spread sum_z squares_z stay_after steady_in
-    permission_in not_accepted_in run_of points_of read_lot read_order read_event past event_in event_of
+unfolding starred_cases landed_at yes_no verdict_of sequence after_ninety readings ends letter_of row_of row_from
+    landing box_at sequential_from item_decides accepts_readings within_spread margin spread sum_z squares_z stay_after
+    steady_in permission_in not_accepted_in run_of points_of read_lot read_order read_event past event_in event_of
 starred = refl
 
 -- stages of 3 with (#,2)(0,3)(0,3)(1,3)(3,4)
@@ -160,9 +160,9 @@ edge_cases =
 -- The cases that are not starred, and edges beside them.
 pub edges : AllAsSaid edge_cases
 unfolding edge_cases planned staged five_stages from_below accepts_readings within_spread margin spread number_bytes
-    on_the_lines verdict_of yes_no not_shown table_plan
-    letter_of row_of row_from landing box_at judge_stages staged_from stages_from stage_decides take_items judge_sequence
-    sequential_from item_decides numbers_of screen shown_of all_in_gauge in_gauge signed_of sum_z squares_z
+    on_the_lines verdict_of yes_no not_shown table_plan letter_of row_of row_from landing box_at judge_stages
+    staged_from stages_from stage_decides take_items judge_sequence sequential_from item_decides numbers_of screen
+    shown_of all_in_gauge in_gauge signed_of sum_z squares_z
 edges = refl
 
 -- The screen's figures: 7 alone; 7 and 9, mean 8 and variance 2; −1 and 0, −1/2 and 1/2; and 1, 2, 2, whose mean 5/3
@@ -193,10 +193,10 @@ output =
 
 -- lotlog's "Output, whole".
 pub listing : log ours input ≡ output
-unfolding input output log log_from logged_as line_of split_at dropping_empty_last all_digits value_from is_number digits_from
-    printed next move clean_in_range close_total judge_total plain_plan table_plan landing box_at tighter_ac letter_of row_of
-    row_from step on_lot
-    on_resubmitted on_order on_corrective figures_in_range event_in event_of lib.Count.ones
+unfolding input output log log_from logged_as line_of split_at dropping_empty_last all_digits value_from is_number
+    digits_from printed next move clean_in_range close_total judge_total plain_plan table_plan landing box_at tighter_ac
+    letter_of row_of row_from step on_lot on_resubmitted on_order on_corrective figures_in_range event_in event_of
+    lib.Count.ones
 listing = refl
 
 pub other_input : List ℕ
@@ -211,10 +211,10 @@ other_output =
     ++ ascii "9 N J 80 2 accept N 3\n"
 
 pub other-listing : log ours other_input ≡ other_output
-unfolding other_input other_output log log_from logged_as line_of split_at dropping_empty_last all_digits value_from is_number
-    digits_from printed next move clean_in_range close_total judge_total plain_plan table_plan landing box_at tighter_ac letter_of
-    row_of row_from
-    step on_lot on_resubmitted on_order on_corrective figures_in_range event_in event_of lib.Count.ones
+unfolding other_input other_output log log_from logged_as line_of split_at dropping_empty_last all_digits value_from
+    is_number digits_from printed next move clean_in_range close_total judge_total plain_plan table_plan landing box_at
+    tighter_ac letter_of row_of row_from step on_lot on_resubmitted on_order on_corrective figures_in_range event_in
+    event_of lib.Count.ones
 other-listing = refl
 
 -- Ten lots to reduced, where a lot has no book; steady withdrawn; sizes over and at the largest number, landing on Q, P
@@ -239,8 +239,8 @@ third_output =
     ++ ascii "27 T J 80 1 reject X 0\n28 refused 5\n29 refused 5\n30 order T 0\n"
 
 pub third-listing : log ours third_input ≡ third_output
-unfolding third_input third_output log log_from logged_as line_of split_at dropping_empty_last all_digits value_from is_number
-    digits_from printed next move clean_in_range close_total judge_total plain_plan table_plan landing box_at tighter_ac letter_of
-    row_of row_from
-    step on_lot on_resubmitted on_order on_corrective figures_in_range event_in event_of lib.Count.ones
+unfolding third_input third_output log log_from logged_as line_of split_at dropping_empty_last all_digits value_from
+    is_number digits_from printed next move clean_in_range close_total judge_total plain_plan table_plan landing box_at
+    tighter_ac letter_of row_of row_from step on_lot on_resubmitted on_order on_corrective figures_in_range event_in
+    event_of lib.Count.ones
 third-listing = refl

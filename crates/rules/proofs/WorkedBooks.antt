@@ -158,6 +158,7 @@ cases =
     ∷ []
 
 pub worked-books : AllAsSaid cases
-unfolding cases whole with alone check_book number_bytes numbers_of checked_as sections section entries entry shift then_from
-    key_falls rises numbers_from right staged_rule staged_number ac_keeps re_keeps sequential_rule at_fits fifth all_sections
+unfolding cases whole with alone check_book number_bytes numbers_of checked_as sections section entries entry shift
+    then_from key_falls rises numbers_from right staged_rule staged_number ac_keeps re_keeps sequential_rule at_fits
+    fifth all_sections
 worked-books = refl

@@ -42,7 +42,8 @@ judged_as (given j) = verdict_as (given j.verdict)
 
 judged_in : List ℕ → ℕ → ℕ → ℕ → ℕ → List ℕ → List ℕ
 judged_in book severity size level column sample =
-    judged_as (judge_curtailed (record { severity = severity; size = size; level = level; column = column }) book sample)
+    judged_as (judge_curtailed (record { severity = severity; size = size; level = level; column = column }) book
+    sample)
 
 -- the bench's seals: a lot of 1,000, II, 1.0: J, 80 items, Ac 2 under normal, 1 under tightened
 seals : ℕ → List ℕ → List ℕ
@@ -115,10 +116,10 @@ sample_cases =
     ∷ []
 
 pub curtailed-worked : AllAsSaid sample_cases
-unfolding sample_cases seals counts whole_lot on_plan three_bad judged_in judged_as verdict_as flag reduced_book number_bytes
-    numbers_of judge_curtailed curtailed_plan curtailed_sample plain_plan table_plan landing box_at letter_of row_of row_from
-    judge_until_lost curtailed_from check_book checked_as sections fifth all_sections section entries entry shift then_from
-    key_falls rises numbers_from right
+unfolding sample_cases seals counts whole_lot on_plan three_bad judged_in judged_as verdict_as flag reduced_book
+    number_bytes numbers_of judge_curtailed curtailed_plan curtailed_sample plain_plan table_plan landing box_at
+    letter_of row_of row_from judge_until_lost curtailed_from check_book checked_as sections fifth all_sections section
+    entries entry shift then_from key_falls rises numbers_from right
 curtailed-worked = refl
 
 -- lots closed on a normal record with score 5 and a clean run of 1, on K at 0.15, or on a tightened one with four not
@@ -157,9 +158,8 @@ closed_cases =
     ∷ []
 
 pub curtailed-closed : AllAsSaid closed_cases
-unfolding closed_cases closes closed_as from_five four_bad three_bad number_bytes numbers_of close_curtailed judge_curtailed
-    curtailed_plan plain_plan table_plan landing box_at tighter_ac letter_of row_of row_from judge_until_lost curtailed_from
-    check_book checked_as sections fifth all_sections section entries shift then_from move clean_in_range step on_lot
-    on_resubmitted
-    figures_in_range has_fractional_plan share_at share_in lib.Count.ones
+unfolding closed_cases closes closed_as from_five four_bad three_bad number_bytes numbers_of close_curtailed
+    judge_curtailed curtailed_plan plain_plan table_plan landing box_at tighter_ac letter_of row_of row_from
+    judge_until_lost curtailed_from check_book checked_as sections fifth all_sections section entries shift then_from
+    move clean_in_range step on_lot on_resubmitted figures_in_range has_fractional_plan share_at share_in lib.Count.ones
 curtailed-closed = refl

@@ -114,9 +114,9 @@ plan_cases =
 
 -- The plans of the mode.
 pub plans : AllAsSaid plan_cases
-unfolding plan_cases fractional_plan single_plan share_in share_at table_plan landing box_at letter_of row_of row_from check_book
-    number_bytes numbers_of checked_as sections fifth all_sections section entries entry shift then_from key_falls rises
-    numbers_from right same_key seek seek_in look_up every
+unfolding plan_cases fractional_plan single_plan share_in share_at table_plan landing box_at letter_of row_of row_from
+    check_book number_bytes numbers_of checked_as sections fifth all_sections section entries entry shift then_from
+    key_falls rises numbers_from right same_key seek seek_in look_up every
 plans = refl
 
 -- a record without steady and permission: normal with its score and window, tightened with its run and count
@@ -243,7 +243,8 @@ closed_cases =
     is accepts 1 (scored 30 0) (clean 2 "B" 15))
     ∷ (closed (tight 4 0) (clean 2 "B" 15) (offered false 8 6 15) (items 3 0)
     is accepts 2 (started normal false false) no_run)
-    ∷ (closed (scored 4 1) no_run (offered false 8 6 15) (items 3 1) is rejects 3 (started tightened false false) no_run)
+    ∷ (closed (scored 4 1) no_run (offered false 8 6 15) (items 3 1) is rejects 3 (started tightened false false)
+    no_run)
     ∷ (closed (tight 1 4) (clean 2 "B" 15) (offered false 8 6 15) (items 3 2)
     is rejects 3 (started stopped false false) no_run)
     -- a whole Ac in the mode is as ever and clears the run: Ac 1; Ac 2 in column 16, with its three points or none
@@ -266,10 +267,10 @@ closed_cases =
 -- Verdicts, bytes and next records, from lent records.
 pub closings : AllAsSaid closed_cases
 unfolding closed_cases close_fractional judge_fractional judge_by_share fractional_plan single_plan share_in share_at
-    has_fractional_plan table_plan landing box_at tighter_ac letter_of row_of row_from check_book number_bytes numbers_of checked_as
-    sections fifth all_sections section entries entry shift then_from key_falls rises numbers_from right same_key seek seek_in
-    look_up every
-    judge_items any_illegal sum_of move clean_in_range step on_lot on_resubmitted figures_in_range lib.Count.ones
+    has_fractional_plan table_plan landing box_at tighter_ac letter_of row_of row_from check_book number_bytes
+    numbers_of checked_as sections fifth all_sections section entries entry shift then_from key_falls rises numbers_from
+    right same_key seek seek_in look_up every judge_items any_illegal sum_of move clean_in_range step on_lot
+    on_resubmitted figures_in_range lib.Count.ones
 closings = refl
 
 -- one staged entry: normal, B in column 15, two stages of 2 with (0,2)(1,2)
@@ -319,8 +320,10 @@ run_cases =
     ∷ (after_two (on_b 1 ∷ on_b 1 ∷ []) is supply_of (scored 0 1) no_run)
     ∷ (after_two (on_b 1 ∷ on_b 0 ∷ on_b 1 ∷ []) is supply_of (scored 10 0) no_run)
     -- a lot of another letter or column restarts the run at 1, and so does the next on the old plan
-    ∷ (after_two (fractional (offered false 8 5 15) no_book (items 2 0) ∷ []) is supply_of (scored 6 0) (clean 1 "A" 15))
-    ∷ (after_two (fractional (offered false 8 6 14) no_book (items 3 0) ∷ []) is supply_of (scored 6 0) (clean 1 "B" 14))
+    ∷ (after_two (fractional (offered false 8 5 15) no_book (items 2 0) ∷ []) is supply_of (scored 6 0)
+    (clean 1 "A" 15))
+    ∷ (after_two (fractional (offered false 8 6 14) no_book (items 3 0) ∷ []) is supply_of (scored 6 0)
+    (clean 1 "B" 14))
     ∷ (after_two (on_b 0 ∷ fractional (offered false 8 5 15) no_book (items 2 0) ∷ [])
     is supply_of (scored 8 0) (clean 1 "B" 15))
     -- kept through an order that changes no severity
@@ -343,8 +346,10 @@ run_cases =
     -- through what is refused: 10, 1, 6 and 7
     ∷ (after_two (byte 9 ∷ []) is supply_of (scored 4 0) (clean 2 "B" 15))
     ∷ (after_two (byte 10 ∷ []) is supply_of (scored 4 0) (clean 2 "B" 15))
-    ∷ (after_two (fractional (offered false 8 5 16) no_book (items 2 0) ∷ []) is supply_of (scored 4 0) (clean 2 "B" 15))
-    ∷ (after_two (fractional (offered false 8 6 15) no_book (items 4 0) ∷ []) is supply_of (scored 4 0) (clean 2 "B" 15))
+    ∷ (after_two (fractional (offered false 8 5 16) no_book (items 2 0) ∷ []) is supply_of (scored 4 0)
+    (clean 2 "B" 15))
+    ∷ (after_two (fractional (offered false 8 6 15) no_book (items 4 0) ∷ []) is supply_of (scored 4 0)
+    (clean 2 "B" 15))
     -- tightened: one nonconforming item after two clean lots, after one
     ∷ (ran ours (on_b 1 ∷ on_b 0 ∷ on_b 0 ∷ byte 3 ∷ byte 3 ∷ []) is supply_of (tight 3 0) no_run)
     ∷ (ran ours (on_b 1 ∷ on_b 0 ∷ byte 3 ∷ byte 3 ∷ []) is supply_of (tight 0 1) no_run)
@@ -362,14 +367,13 @@ run_cases =
 
 -- Runs of calls from a fresh record.
 pub runs : AllAsSaid run_cases
-unfolding run_cases ran entered next close_fractional judge_fractional judge_by_share fractional_plan single_plan share_in
-    share_at has_fractional_plan table_plan landing box_at tighter_ac letter_of row_of row_from check_book number_bytes numbers_of
-    checked_as sections fifth all_sections section entries entry shift then_from key_falls rises numbers_from right
-    staged_rule staged_number ac_keeps re_keeps same_key seek seek_in look_up every judge_items any_illegal sum_of judge_single
-    close_single judge_total close_total plain_plan staged_plan total_size judge_stages staged_from stages_from stage_decides
-    take_items judge_staged close_staged move clean_in_range step on_lot on_resubmitted on_order on_corrective figures_in_range
-    event_in event_of
-    lib.Count.ones
+unfolding run_cases ran entered next close_fractional judge_fractional judge_by_share fractional_plan single_plan
+    share_in share_at has_fractional_plan table_plan landing box_at tighter_ac letter_of row_of row_from check_book
+    number_bytes numbers_of checked_as sections fifth all_sections section entries entry shift then_from key_falls rises
+    numbers_from right staged_rule staged_number ac_keeps re_keeps same_key seek seek_in look_up every judge_items
+    any_illegal sum_of judge_single close_single judge_total close_total plain_plan staged_plan total_size judge_stages
+    staged_from stages_from stage_decides take_items judge_staged close_staged move clean_in_range step on_lot
+    on_resubmitted on_order on_corrective figures_in_range event_in event_of lib.Count.ones
 runs = refl
 
 pub inside : List Supply
@@ -485,7 +489,8 @@ handed_cases =
 
 -- Events handed to close_lot.
 pub handings : AllAsSaid handed_cases
-unfolding handed_cases move clean_in_range has_fractional_plan share_at share_in step on_lot figures_in_range lib.Count.ones
+unfolding handed_cases move clean_in_range has_fractional_plan share_at share_in step on_lot figures_in_range
+    lib.Count.ones
 handings = refl
 
 -- A line of Annex A: the lot's size, its letter, n, Ac and share, the nonconforming items, acceptable or not, the
@@ -595,8 +600,8 @@ annex_cases =
 -- Annex A of source 002.
 pub annex : AllAsSaid annex_cases
 unfolding annex_cases annex_to_ten annex_from_twelve annex_twenty_four close_fractional judge_fractional judge_by_share
-    fractional_plan single_plan share_in share_at has_fractional_plan table_plan landing box_at tighter_ac letter_of row_of row_from
-    check_book number_bytes numbers_of checked_as sections fifth all_sections section entries entry shift then_from key_falls
-    rises numbers_from
-    right judge_items any_illegal sum_of move clean_in_range step on_lot figures_in_range lib.Count.ones
+    fractional_plan single_plan share_in share_at has_fractional_plan table_plan landing box_at tighter_ac letter_of
+    row_of row_from check_book number_bytes numbers_of checked_as sections fifth all_sections section entries entry
+    shift then_from key_falls rises numbers_from right judge_items any_illegal sum_of move clean_in_range step on_lot
+    figures_in_range lib.Count.ones
 annex = refl

@@ -40,7 +40,8 @@ tens upper limit sigma k = judged (known sigma) (one upper limit) 2 k k (pos 10 
 
 -- 10, 12 and 14, for two limits by the s method
 three : ℤ → ℤ → ℕ → ℕ → List ℕ
-three upper lower upper_k lower_k = judged estimated (both upper lower) 3 upper_k lower_k (pos 10 ∷ pos 12 ∷ pos 14 ∷ [])
+three upper lower upper_k lower_k =
+    judged estimated (both upper lower) 3 upper_k lower_k (pos 10 ∷ pos 12 ∷ pos 14 ∷ [])
 
 -- Source 001, 14.4, in hundredths of a second from 6.50 s: delays of 4 to 9 s.
 published : List ℤ
@@ -106,9 +107,9 @@ reading_cases =
     ∷ []
 
 pub reading-cases : AllAsSaid reading_cases
-unfolding reading_cases coded verdict_of judged tens three published judge_readings accepts_limits side_accepts within_sigma
-    accepts_readings within_spread margin spread sum_z squares_z spread_in limits_in in_gauge all_in_gauge number_bytes numbers_of
-    signed_of
+unfolding reading_cases coded verdict_of judged tens three published judge_readings accepts_limits side_accepts
+    within_sigma accepts_readings within_spread margin spread sum_z squares_z spread_in limits_in in_gauge all_in_gauge
+    number_bytes numbers_of signed_of
 reading-cases = refl
 
 -- three s plans and three sigma plans of letter A under normal; the same without the sigma plans
@@ -183,9 +184,9 @@ lot_cases =
     ∷ []
 
 pub lot-cases : AllAsSaid lot_cases
-unfolding lot_cases coded sides by_s by_sigma limited small asked four_sections five_sections judge_sides judge_limit sides_plan
-    readings_plan look_up seek_in seek same_key letter_of row_of row_from check_book checked_as all_sections fifth sections
-    section entries entry key_falls rises numbers_from right shift then_from judge_readings accepts_limits side_accepts
-    within_sigma accepts_readings within_spread margin spread sum_z squares_z spread_in limits_in in_gauge all_in_gauge
-    number_bytes numbers_of signed_of
+unfolding lot_cases coded sides by_s by_sigma limited small asked four_sections five_sections judge_sides judge_limit
+    sides_plan readings_plan look_up seek_in seek same_key letter_of row_of row_from check_book checked_as all_sections
+    fifth sections section entries entry key_falls rises numbers_from right shift then_from judge_readings
+    accepts_limits side_accepts within_sigma accepts_readings within_spread margin spread sum_z squares_z spread_in
+    limits_in in_gauge all_in_gauge number_bytes numbers_of signed_of
 lot-cases = refl

@@ -107,8 +107,9 @@ cases =
     ∷ []
 
 pub worked-rows : AllAsSaid cases
-unfolding reduced staged sequential variables sigma lists book numbers_of number_bytes check_book checked_as all_sections
-    fifth sections section entries entry key_falls rises numbers_from right staged_rule staged_number ac_keeps re_keeps
-    sequential_rule at_fits shift then_from staged_in_row entry_at section_at gathered entry_in_row filled row_of rows_in row_right
-    check_rows check_lists laid laid_section laid_lists write_book shown read_entries read_entry cases
+unfolding reduced staged sequential variables sigma lists book numbers_of number_bytes check_book checked_as
+    all_sections fifth sections section entries entry key_falls rises numbers_from right staged_rule staged_number
+    ac_keeps re_keeps sequential_rule at_fits shift then_from staged_in_row entry_at section_at gathered entry_in_row
+    filled row_of rows_in row_right check_rows check_lists laid laid_section laid_lists write_book shown read_entries
+    read_entry cases
 worked-rows = refl

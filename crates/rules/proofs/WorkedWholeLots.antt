@@ -66,9 +66,9 @@ size_cases =
     ∷ []
 
 pub whole-lots-worked : AllAsSaid size_cases
-unfolding size_cases planned figures book single_plan table_plan landing box_at letter_of row_of row_from check_book number_bytes
-    numbers_of checked_as sections fifth all_sections section entries entry shift then_from key_falls rises numbers_from right
-    look_up same_key seek seek_in every
+unfolding size_cases planned figures book single_plan table_plan landing box_at letter_of row_of row_from check_book
+    number_bytes numbers_of checked_as sections fifth all_sections section entries entry shift then_from key_falls rises
+    numbers_from right look_up same_key seek seek_in every
 whole-lots-worked = refl
 
 -- n, the table's own size, and 1 where that is cut, of the plan that a closed lot has
@@ -102,12 +102,12 @@ closed_cases =
     ∷ []
 
 pub whole-lots-closed : AllAsSaid closed_cases
-unfolding closed_cases told sizes_of ten new clean book close_single close_curtailed close_total close_fractional judge_single
-    judge_curtailed judge_total judge_fractional judge_items judge_until_lost curtailed_from judge_by_share single_plan
-    curtailed_plan plain_plan fractional_plan share_in share_at has_fractional_plan table_plan landing box_at tighter_ac letter_of
-    row_of row_from check_book number_bytes numbers_of checked_as sections fifth all_sections section entries entry shift
-    then_from key_falls rises numbers_from right any_illegal sum_of move clean_in_range step on_lot figures_in_range
-    lib.Count.ones
+unfolding closed_cases told sizes_of ten new clean book close_single close_curtailed close_total close_fractional
+    judge_single judge_curtailed judge_total judge_fractional judge_items judge_until_lost curtailed_from judge_by_share
+    single_plan curtailed_plan plain_plan fractional_plan share_in share_at has_fractional_plan table_plan landing
+    box_at tighter_ac letter_of row_of row_from check_book number_bytes numbers_of checked_as sections fifth
+    all_sections section entries entry shift then_from key_falls rises numbers_from right any_illegal sum_of move
+    clean_in_range step on_lot figures_in_range lib.Count.ones
 whole-lots-closed = refl
 
 pub input : List ℕ
@@ -119,7 +119,8 @@ output =
     ++ ascii "3 N K 125 0 accept N 2\n4 N K 124W 0 reject N 2\n5 refused 8\n"
 
 pub whole-lots-logged : log ours input ≡ output
-unfolding input output log log_from logged_as line_of split_at dropping_empty_last all_digits value_from is_number digits_from
-    printed next move clean_in_range close_total judge_total plain_plan table_plan landing box_at tighter_ac letter_of row_of
-    row_from step on_lot on_resubmitted on_order on_corrective figures_in_range event_in event_of lib.Count.ones
+unfolding input output log log_from logged_as line_of split_at dropping_empty_last all_digits value_from is_number
+    digits_from printed next move clean_in_range close_total judge_total plain_plan table_plan landing box_at tighter_ac
+    letter_of row_of row_from step on_lot on_resubmitted on_order on_corrective figures_in_range event_in event_of
+    lib.Count.ones
 whole-lots-logged = refl

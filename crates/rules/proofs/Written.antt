@@ -238,7 +238,8 @@ module _ (k : Kind) where
   shown-count zero ws = refl
   shown-count (suc n) ws = ap suc (shown-count n (drop (size_of k ws) ws))
 
-  pub shown-at : (n : ℕ) (ws : List ℕ) (i : ℕ) → i < n → get_or (shown k n ws) i [] ≡ row_of k (drop (entry_at k i ws) ws)
+  pub shown-at : (n : ℕ) (ws : List ℕ) (i : ℕ) → i < n
+      → get_or (shown k n ws) i [] ≡ row_of k (drop (entry_at k i ws) ws)
   unfolding shown entry_at
   shown-at zero ws i h = absurd (omega arith)
   shown-at (suc n) ws zero h = refl
@@ -267,7 +268,8 @@ lists-right k ks j p rows h = go (check_rows k p [] (rows j)) refl h
     go (broken_at b) e q = broken-unsound q
 
 -- the i-th list is right
-pub lists-each : (ks : List Kind) (j p : ℕ) (rows : ℕ → Rows) → check_lists ks j p rows ≡ sound → (i : ℕ) → i < length ks
+pub lists-each : (ks : List Kind) (j p : ℕ) (rows : ℕ → Rows) → check_lists ks j p rows ≡ sound → (i : ℕ)
+    → i < length ks
     → (q : ℕ) × (check_rows (get_or ks i variables) q [] (rows (j + i)) ≡ sound)
 lists-each [] j p rows h i l = absurd (omega arith)
 lists-each (k ∷ ks) j p rows h zero l =

@@ -1,7 +1,8 @@
 -- Document 01, 'Plan book', with the fifth section of document 02, T-07: its numbers, the kinds of section as data, the
 -- check with its byte, and the look-up. Definitions only.
 -- Places are counted in numbers from the start of a stretch; `check_book` turns them into bytes.
-use Rattle.std.specs.Prelude.{ℕ, zero, suc, ◌+◌, ◌*◌, ◌-◌, ◌/◌, ◌%◌, Bool, true, false, cond, ◌&&◌, ◌||◌, not, List, [], ◌∷◌, ◌++◌, leb, ltb, eqb, length, get_or, take, drop, replicate}
+use Rattle.std.specs.Prelude.{ℕ, zero, suc, ◌+◌, ◌*◌, ◌-◌, ◌/◌, ◌%◌, Bool, true, false, cond, ◌&&◌, ◌||◌, not, List, []}
+use Rattle.std.specs.Prelude.{◌∷◌, ◌++◌, leb, ltb, eqb, length, get_or, take, drop, replicate}
 use Rattle.rules.specs.Refusals.{Answer, refused, broken_book}
 use Rattle.rules.specs.Numbers.{numbers_of}
 use Rattle.rules.specs.Staged.{StagedPlan, mark}
@@ -186,7 +187,8 @@ at_fits h_a h_r g nt x = leb ((g * nt - 100 * h_a) / 100000) x && ltb x ((g * nt
 
 unfoldable pub sequential_rule : List ℕ → ℕ → Bool
 sequential_rule before x =
-    cond (eqb (length before) 7) (at_fits (get_or before 3 0) (get_or before 4 0) (get_or before 5 0) (get_or before 6 0) x) true
+    cond (eqb (length before) 7) (at_fits (get_or before 3 0) (get_or before 4 0) (get_or before 5 0)
+    (get_or before 6 0) x) true
 
 -- "3. sequential: severity 0 to 2, letter 0 to 15, column, hA, hR (both 1 or more), g 1 to 60,000, nt 1 to 3,150, At"
 abbrev pub sequential : Kind
@@ -194,7 +196,8 @@ sequential =
     record {
       key = 3;
       size = λ n. 8;
-      ranges = severity_range ∷ letter_range ∷ item_column ∷ (1 to 65535) ∷ (1 to 65535) ∷ (1 to 60000) ∷ (1 to 3150) ∷ [];
+      ranges =
+          severity_range ∷ letter_range ∷ item_column ∷ (1 to 65535) ∷ (1 to 65535) ∷ (1 to 60000) ∷ (1 to 3150) ∷ [];
       rule = sequential_rule;
       width = 8;
       in_row = as_it_stands;
@@ -297,7 +300,8 @@ from_end short look = nothing
 
 unfoldable pub look_up : ℕ → ℕ → ℕ → ℕ → List ℕ → Found
 look_up j severity letter column ws =
-    from_end (sections (take j kinds) ws) (λ p. seek_in (kind_at j) (key_for (kind_at j) severity letter column) (drop p ws))
+    from_end (sections (take j kinds) ws) (λ p. seek_in (kind_at j) (key_for (kind_at j) severity letter column)
+    (drop p ws))
 
 -- n numbers of an entry, from place p on, every s places
 unfoldable pub every : ℕ → ℕ → ℕ → List ℕ → List ℕ
@@ -327,7 +331,8 @@ staged_of e =
     }
 
 abbrev pub sequential_of : List ℕ → SequentialPlan
-sequential_of e = record { h_a = get_or e 3 0; h_r = get_or e 4 0; g = get_or e 5 0; nt = get_or e 6 0; at_nt = get_or e 7 0 }
+sequential_of e =
+    record { h_a = get_or e 3 0; h_r = get_or e 4 0; g = get_or e 5 0; nt = get_or e 6 0; at_nt = get_or e 7 0 }
 
 abbrev pub variables_of : List ℕ → VariablesPlan
 variables_of e = record { n = get_or e 3 0; k = get_or e 4 0 }

@@ -25,7 +25,8 @@ unfoldable pub single_sample : ℕ → Plan → List ℕ → Answer Verdict
 single_sample column plan bytes = first_of ((ltb 25 column gives no_such_column) ∷ []) (judge_items column plan bytes)
 
 unfoldable pub curtailed_sample : ℕ → Plan → List ℕ → Answer Verdict
-curtailed_sample column plan bytes = first_of ((ltb 25 column gives no_such_column) ∷ []) (judge_until_lost column plan bytes)
+curtailed_sample column plan bytes =
+    first_of ((ltb 25 column gives no_such_column) ∷ []) (judge_until_lost column plan bytes)
 
 unfoldable pub staged_sample : ℕ → StagedPlan → List ℕ → Answer Verdict
 staged_sample column plan bytes = first_of ((ltb 25 column gives no_such_column) ∷ []) (judge_stages column plan bytes)
@@ -141,7 +142,8 @@ unfoldable pub sequential_plan : Asked → List ℕ → Answer SequentialPlan
 sequential_plan q book =
     on_sound (check_book book)
     (first_of (asked_checks q)
-    (from_entry (looked_up sequential_section q book) (λ e. unless_above q.size (sequential_of e).nt (sequential_of e))))
+    (from_entry (looked_up sequential_section q book)
+    (λ e. unless_above q.size (sequential_of e).nt (sequential_of e))))
 
 -- for readings, of the fourth section or the fifth
 unfoldable pub readings_plan : ℕ → Asked → List ℕ → Answer VariablesPlan
@@ -271,7 +273,8 @@ abbrev pub staged_event : Record → Offered → Judged StagedPlan Verdict → E
 staged_event r o j = event_for o sampled (staged_counts r o j)
 
 abbrev pub closed_with : {P : Type 0} → Supply → (Judged P Verdict → Event) → Judged P Verdict → Answer (Closed P)
-closed_with s event j = and_then (move s (event j)) (λ t. given (record { judged = j; event = event j; supply_after = t }))
+closed_with s event j =
+    and_then (move s (event j)) (λ t. given (record { judged = j; event = event j; supply_after = t }))
 
 -- close_single, close_curtailed, close_staged: "12 first", then a record out of range, then as the lot is judged at the
 -- present severity

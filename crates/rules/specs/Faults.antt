@@ -51,7 +51,8 @@ pub data BookFault (bytes : List ℕ) (b : ℕ) : Type 0 where
   -- "at the first byte after the fifth section in place of the fourth"
   follows : length bytes ≤ largest_book → 2 * book_end bytes < length bytes → b ≡ 2 * book_end bytes → BookFault bytes b
   -- "the book's length where a number is missing or half there"
-  missing : length bytes ≤ largest_book → length (numbers_of bytes) < book_end bytes → b ≡ length bytes → BookFault bytes b
+  missing : length bytes ≤ largest_book → length (numbers_of bytes) < book_end bytes → b ≡ length bytes
+      → BookFault bytes b
 
 -- What is claimed of the check of a book: the byte reported is a fault, and none is lower; a sound book has none.
 pub record Lowest (bytes : List ℕ) (b : ℕ) : Type 0 where

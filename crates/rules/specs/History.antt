@@ -1,5 +1,6 @@
 -- Document 01, 'Severity record', a history of bytes: the list of its severities, and its refusals. Definitions only.
-use Rattle.std.specs.Prelude.{ℕ, zero, suc, Bool, true, false, cond, ◌&&◌, ◌||◌, not, List, [], ◌∷◌, leb, ltb, eqb, length, get_or, set}
+use Rattle.std.specs.Prelude.{ℕ, zero, suc, Bool, true, false, cond, ◌&&◌, ◌||◌, not, List, [], ◌∷◌, leb, ltb, eqb}
+use Rattle.std.specs.Prelude.{length, get_or, set}
 use Rattle.rules.specs.Refusals.{Answer, refused, given, first_of, ◌gives◌, and_then, buffer_short}
 use Rattle.rules.specs.Severity.{Lot, add_three, add_two, score_zero, not_accepted, typed, Event, lot}
 use Rattle.rules.specs.Severity.{resubmitted, steady_is, permission_is, corrective, unknown, Record, fresh, step}

@@ -1,6 +1,7 @@
 -- What demand 2 says of a sample, with no walk in it: which samples are judged, with which verdict, and by which number
 -- the others are refused. Definitions only.
-use Rattle.std.specs.Prelude.{ℕ, suc, ◌*◌, ◌≤◌, ◌<◌, ◌≡◌, ◌↔◌, ◌⊎◌, Bool, true, false, cond, List, ◌++◌, leb, ℤ, pos, ◌-ℤ◌, ◌*ℤ◌, length, get_or, take}
+use Rattle.std.specs.Prelude.{ℕ, suc, ◌*◌, ◌≤◌, ◌<◌, ◌≡◌, ◌↔◌, ◌⊎◌, Bool, true, false, cond, List, ◌++◌, leb, ℤ, pos}
+use Rattle.std.specs.Prelude.{◌-ℤ◌, ◌*ℤ◌, length, get_or, take}
 use Rattle.std.specs.Int.Signed.{le_z}
 use Rattle.rules.specs.Numbers.{numbers_of, sum_of}
 use Rattle.rules.specs.Codes.{illegal, any_illegal}

@@ -1,6 +1,7 @@
 -- Document 02, T-07: a known spread beside document 01's s method, one limit or two, and the verdict on readings. Its
 -- own words are quoted without the document. Definitions only.
-use Rattle.std.specs.Prelude.{ℕ, ◌*◌, Bool, true, false, cond, ◌&&◌, ◌||◌, not, List, [], ◌∷◌, eqb, leb, ℤ, pos, ◌*ℤ◌, length}
+use Rattle.std.specs.Prelude.{ℕ, ◌*◌, Bool, true, false, cond, ◌&&◌, ◌||◌, not, List, [], ◌∷◌, eqb, leb, ℤ, pos, ◌*ℤ◌}
+use Rattle.std.specs.Prelude.{length}
 use Rattle.std.specs.Int.Signed.{le_z, lt_z}
 use Rattle.rules.specs.Refusals.{Answer, given, first_of, ◌gives◌, wrong_length, out_of_range}
 use Rattle.rules.specs.Variables.{VariablesPlan, in_gauge, all_in_gauge, readings_of, sum_z, margin, accepts_readings}

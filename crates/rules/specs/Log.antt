@@ -1,5 +1,6 @@
 -- Document 01, lotlog: its output as a function from input bytes to output bytes. Definitions only.
-use Rattle.std.specs.Prelude.{ℕ, zero, suc, ◌+◌, ◌*◌, ◌-◌, ◌/◌, ◌%◌, min, Bool, true, false, cond, ◌&&◌, ◌||◌, not, List, [], ◌∷◌, ◌++◌, leb, ltb, eqb, length, get_or}
+use Rattle.std.specs.Prelude.{ℕ, zero, suc, ◌+◌, ◌*◌, ◌-◌, ◌/◌, ◌%◌, min, Bool, true, false, cond, ◌&&◌, ◌||◌, not}
+use Rattle.std.specs.Prelude.{List, [], ◌∷◌, ◌++◌, leb, ltb, eqb, length, get_or}
 use Rattle.rules.specs.Refusals.{Answer, refused, given, unknown_form}
 use Prim.Native.Char.{code}
 use Rattle.rules.specs.Ascii.{ascii}
@@ -78,7 +79,8 @@ field_at fields i = get_or fields i []
 -- is the first field this letter, with so many fields after it?
 abbrev pub opens : ℕ → ℕ → List (List ℕ) → Bool
 opens letter more fields =
-    eqb (length fields) (suc more) && (eqb (length (field_at fields 0)) 1 && eqb (get_or (field_at fields 0) 0 0) letter)
+    eqb (length fields) (suc more)
+    && (eqb (length (field_at fields 0)) 1 && eqb (get_or (field_at fields 0) 0 0) letter)
 
 -- "L or R (original, resubmitted), size, level, column, total"
 abbrev pub numbers_after : List (List ℕ) → Bool
@@ -227,7 +229,8 @@ line_after line = min (line + 1) largest_line
 
 unfoldable pub log_from : Work → ℕ → Supply → List (List ℕ) → List ℕ
 log_from w line s [] = []
-log_from w line s (l ∷ ls) = (logged_line w line s l).text ++ log_from w (line_after line) (logged_line w line s l).held ls
+log_from w line s (l ∷ ls) =
+    (logged_line w line s l).text ++ log_from w (line_after line) (logged_line w line s l).held ls
 
 abbrev pub header : List ℕ
 header = ascii "no sev let n ac verdict next score\n"

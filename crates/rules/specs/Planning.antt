@@ -1,6 +1,7 @@
 -- What demand 2 says of each entry that plans, judges or closes a lot, and of a history: the rows of its refusals, and
 -- what is known of what is given. Definitions only.
-use Rattle.std.specs.Prelude.{ℕ, suc, ◌+◌, ◌≤◌, ◌<◌, ◌≡◌, ◌⊎◌, true, false, cond, List, [], ◌∷◌, leb, ltb, length, get_or, take}
+use Rattle.std.specs.Prelude.{ℕ, suc, ◌+◌, ◌≤◌, ◌<◌, ◌≡◌, ◌⊎◌, true, false, cond, List, [], ◌∷◌, leb, ltb, length}
+use Rattle.std.specs.Prelude.{get_or, take}
 use Rattle.rules.specs.Refusals.{Answer, refused, given, first_of}
 use Rattle.rules.specs.Verdict.{Verdict, Judged}
 use Rattle.rules.specs.Codes.{letter_of}

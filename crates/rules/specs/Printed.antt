@@ -39,8 +39,10 @@ box_name (number ac) = decimal ac
 
 -- Arrows as the table has them, counted: so many lead from a letter to a box with a number.
 pub data Leads (severity column : ℕ) : ℕ → ℕ → Landing → Type 0 where
-  there : (letter ac : ℕ) → box_at severity column letter ≡ number ac → Leads severity column letter 0 (landed letter ac)
-  downward : (letter k : ℕ) (l : Landing) → box_at severity column letter ≡ down → Leads severity column (letter + 1) k l
+  there : (letter ac : ℕ) → box_at severity column letter ≡ number ac
+      → Leads severity column letter 0 (landed letter ac)
+  downward : (letter k : ℕ) (l : Landing) → box_at severity column letter ≡ down
+      → Leads severity column (letter + 1) k l
       → Leads severity column letter (suc k) l
   upward : (letter k : ℕ) (l : Landing) → box_at severity column letter ≡ up → Leads severity column (letter - 1) k l
       → Leads severity column letter (suc k) l

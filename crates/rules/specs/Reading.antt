@@ -1,6 +1,7 @@
 -- Document 01, 'Severity record', the written reading of demand 3, which keeps no record. Events and lots stand
 -- newest first. Definitions only.
-use Rattle.std.specs.Prelude.{ℕ, zero, suc, ◌+◌, ◌*◌, min, Bool, true, false, cond, ◌&&◌, not, List, [], ◌∷◌, leb, eqb, take}
+use Rattle.std.specs.Prelude.{ℕ, zero, suc, ◌+◌, ◌*◌, min, Bool, true, false, cond, ◌&&◌, not, List, [], ◌∷◌, leb, eqb}
+use Rattle.std.specs.Prelude.{take}
 use Rattle.rules.specs.Codes.{normal, tightened, reduced, stopped}
 use Rattle.rules.specs.Severity.{Lot, add_three, add_two, score_zero, not_accepted, accepted, Event, lot}
 use Rattle.rules.specs.Severity.{resubmitted, steady_is, permission_is, corrective, unknown, due}

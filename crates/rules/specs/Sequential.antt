@@ -33,7 +33,8 @@ unfoldable pub sequential_from : SequentialPlan → Bool → ℕ → ℕ → Lis
 sequential_from p half n d [] = refused wrong_length 0
 sequential_from p half n d (x ∷ items) =
     cond (ltb 1 x) (refused illegal_item 0)
-    (decided (item_decides p (suc n) (d + x)) (λ accepted. ended half items (sequential_verdict (suc n) (d + x) accepted))
+    (decided (item_decides p (suc n) (d + x))
+    (λ accepted. ended half items (sequential_verdict (suc n) (d + x) accepted))
     (sequential_from p half (suc n) (d + x) items))
 
 unfoldable pub judge_sequence : SequentialPlan → List ℕ → Answer Verdict

@@ -1,6 +1,7 @@
 -- Document 01, 'Severity record': the record of one supply, its range, what each event makes of it, and the score of
 -- a lot, which in stages is that of document 02, T-02. Definitions only.
-use Rattle.std.specs.Prelude.{ℕ, zero, suc, ◌+◌, ◌*◌, ◌%◌, min, Bool, true, false, cond, ◌&&◌, not, [], ◌∷◌, leb, ltb, eqb}
+use Rattle.std.specs.Prelude.{ℕ, zero, suc, ◌+◌, ◌*◌, ◌%◌, min, Bool, true, false, cond, ◌&&◌, not, [], ◌∷◌, leb, ltb}
+use Rattle.std.specs.Prelude.{eqb}
 use Rattle.std.specs.Int.Count.{ones}
 use Rattle.rules.specs.Refusals.{Answer, refused, given, ◌gives◌, first_of, unknown_form, while_stopped, not_stopped}
 use Rattle.rules.specs.Codes.{normal, tightened, reduced, stopped}

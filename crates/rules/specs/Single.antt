@@ -1,7 +1,8 @@
 -- Document 01, 'Single plans': sizes, the two master tables as printed, arrows, the cut to the lot, acceptance; and
 -- document 02, T-05, 'Say when it is the whole lot'.
 -- Definitions only.
-use Rattle.std.specs.Prelude.{ℕ, zero, suc, ◌+◌, ◌*◌, ◌-◌, Bool, cond, ◌&&◌, not, List, [], ◌∷◌, map, leb, eqb, length, get_or}
+use Rattle.std.specs.Prelude.{ℕ, zero, suc, ◌+◌, ◌*◌, ◌-◌, Bool, cond, ◌&&◌, not, List, [], ◌∷◌, map, leb, eqb, length}
+use Rattle.std.specs.Prelude.{get_or}
 use Rattle.rules.specs.Refusals.{Answer, given, first_of, ◌gives◌, wrong_length, illegal_item}
 use Rattle.rules.specs.Numbers.{numbers_of, sum_of}
 use Rattle.rules.specs.Codes.{normal, letter_a, letter_e, letter_r, letter_of, any_illegal}

@@ -1,5 +1,5 @@
--- Document 02, T-06, 'Drop the arrow walk': "name the landing letter straight from letter, column and severity". Down
--- a column of a master table stand, as far as its letters go and but for three boxes (`last_to_zero`), arrows down, Ac 0,
+-- Document 02, T-06, 'Drop the arrow walk': "name the landing letter straight from letter, column and severity". Down a
+-- column of a master table stand, as far as its letters go and but for three boxes (`last_to_zero`), arrows down, Ac 0,
 -- an arrow up and one down, Ac 1 and the numbers after it, and arrows up. So a letter goes to Ac 0, to Ac 1 or back to
 -- the last number, or it stays: it lands at the nearest number (proofs/Nearest). A place in a column is told by its s,
 -- letter plus column. Definitions only.

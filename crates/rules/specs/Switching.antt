@@ -1,7 +1,8 @@
 -- What the laws of demand 3 say of stays and of changes of severity: what stays, by what each severity is left, what
 -- stands when reduced starts, what a history's stays are, and what a record in range is. Lots and events stand newest
 -- first. Definitions only.
-use Rattle.std.specs.Prelude.{ℕ, zero, suc, ◌+◌, ◌≤◌, ◌<◌, ◌≡◌, Bool, true, false, List, [], ◌∷◌, ◌++◌, ◌↔◌, ◌⊎◌, length, take}
+use Rattle.std.specs.Prelude.{ℕ, zero, suc, ◌+◌, ◌≤◌, ◌<◌, ◌≡◌, Bool, true, false, List, [], ◌∷◌, ◌++◌, ◌↔◌, ◌⊎◌}
+use Rattle.std.specs.Prelude.{length, take}
 use Rattle.std.specs.Int.Count.{ones}
 use Rattle.rules.specs.Codes.{normal, tightened, reduced, stopped}
 use Rattle.rules.specs.Severity.{add_two, Origin, typed, sampled, on_fraction, counted}

@@ -1,7 +1,8 @@
 -- Document 01, "The C terminal calls the plan, the verdict and the next severity with numbers and byte slices": the
 -- status that a call returns, a lent record's bytes, a staged plan's row, and what lent memory then holds. Definitions
 -- only.
-use Rattle.std.specs.Prelude.{ℕ, ◌+◌, ◌*◌, min, Bool, false, cond, ◌&&◌, List, [], ◌∷◌, ◌++◌, leb, ltb, eqb, length, get_or, drop}
+use Rattle.std.specs.Prelude.{ℕ, ◌+◌, ◌*◌, min, Bool, false, cond, ◌&&◌, List, [], ◌∷◌, ◌++◌, leb, ltb, eqb, length}
+use Rattle.std.specs.Prelude.{get_or, drop}
 use Rattle.rules.specs.Refusals.{Answer, refused, given, ◌gives◌, first_of, and_then, buffer_short}
 use Rattle.rules.specs.Numbers.{number_bytes}
 use Rattle.rules.specs.Staged.{StagedPlan}

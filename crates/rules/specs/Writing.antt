@@ -1,7 +1,8 @@
 -- Document 02, T-03: a book made from its entries, and a book's entries shown. "Each entry kind gets the same checks as
 -- the reader". Definitions only.
 -- An entry is handed over, and shown, as a row of numbers; the kinds say where in a row each number of an entry stands.
-use Rattle.std.specs.Prelude.{ℕ, zero, suc, ◌+◌, ◌*◌, Bool, cond, ◌&&◌, ◌||◌, List, [], ◌∷◌, ◌++◌, leb, ltb, eqb, length, get_or, take, drop, set, replicate}
+use Rattle.std.specs.Prelude.{ℕ, zero, suc, ◌+◌, ◌*◌, Bool, cond, ◌&&◌, ◌||◌, List, [], ◌∷◌, ◌++◌, leb, ltb, eqb}
+use Rattle.std.specs.Prelude.{length, get_or, take, drop, set, replicate}
 use Rattle.rules.specs.Refusals.{Answer, given, ◌gives◌, first_of, no_plan, buffer_short}
 use Rattle.rules.specs.Numbers.{numbers_of, number_bytes}
 use Rattle.rules.specs.Book.{Kind, size_of, key_of, entry, is_end, always, kinds, kind_at, Checked, sound}
@@ -46,7 +47,8 @@ row_right k before row = leb k.width (length row) && is_end (entry k before (ent
 -- rows, the first of which is at position p, after an entry with the key before: "the position of the first bad entry"
 unfoldable pub check_rows : Kind → ℕ → List ℕ → Rows → Checked
 check_rows k p before [] = sound
-check_rows k p before (row ∷ rows) = cond (row_right k before row) (check_rows k (suc p) (key_of k row) rows) (broken_at p)
+check_rows k p before (row ∷ rows) =
+    cond (row_right k before row) (check_rows k (suc p) (key_of k row) rows) (broken_at p)
 
 abbrev pub sound_then : Checked → Checked → Checked
 sound_then sound next = next
@@ -87,7 +89,8 @@ no_room rows room = ltb room (length (book_of rows)) || ltb largest_book (length
 -- write_book: "12 with the position of the first bad entry .. in place of a byte; 11 .. after 12"
 unfoldable pub write_book : (ℕ → Rows) → ℕ → Answer (List ℕ)
 write_book rows room =
-    on_sound (check_lists kinds 0 0 rows) (first_of ((no_room rows room gives buffer_short) ∷ []) (given (book_of rows)))
+    on_sound (check_lists kinds 0 0 rows)
+    (first_of ((no_room rows room gives buffer_short) ∷ []) (given (book_of rows)))
 
 -- the rows of n entries of a stretch
 unfoldable pub shown : Kind → ℕ → List ℕ → Rows

@@ -14,7 +14,8 @@ use Rattle.rules.specs.Fractional.{FractionalPlan, plan_of_share, fraction_accep
 use Rattle.rules.specs.Fractional.{judge_by_share}
 use Rattle.rules.specs.Supply.{Supply, run_on, supply_in_range}
 use Rattle.rules.specs.Book.{Checked, sound, broken_at, check_book, on_sound}
-use Rattle.rules.specs.Entries.{Asked, single_plan, plain_plan, curtailed_plan, single_sample, in_fractions, fractional_plan}
+use Rattle.rules.specs.Entries.{Asked, single_plan, plain_plan, curtailed_plan, single_sample, in_fractions}
+use Rattle.rules.specs.Entries.{fractional_plan}
 use Rattle.rules.specs.Entries.{judged_on, Offered, asked_on, event_for, single_counts, on_supply, closed_with, Closed}
 use Rattle.rules.specs.Entries.{judge_fractional, origin_of, fractional_event, close_fractional}
 use Rattle.rules.specs.Planning.{on_plan}
@@ -67,10 +68,12 @@ module _ (q : Asked) (book : List ℕ) (x : Beside FractionalPlan FractionalPlan
     tables : on_sound (check_book book) (and_then (plain_plan q) (in_fractions q)) ≡ fractional_plan q book
     unfolding fractional_plan curtailed_plan
     tables =
-        onward (check_book book) ∙ ap (λ (a : Answer Plan). and_then a (in_fractions q)) (curtailed-as-single q book other)
+        onward (check_book book) ∙ ap (λ (a : Answer Plan). and_then a (in_fractions q))
+        (curtailed-as-single q book other)
       where
         onward : (c : Checked)
-            → on_sound c (and_then (plain_plan q) (in_fractions q)) ≡ and_then (on_sound c (plain_plan q)) (in_fractions q)
+            → on_sound c (and_then (plain_plan q) (in_fractions q)) ≡ and_then (on_sound c (plain_plan q))
+            (in_fractions q)
         onward sound = refl
         onward (broken_at byte) = refl
 

@@ -18,7 +18,8 @@ use Rattle.rules.specs.Limits.{Spread, Limits, SidesPlan, side_of, judge_reading
 use Rattle.rules.specs.Entries.{Asked, judged_on, single_plan, fractional_plan, staged_plan, sides_plan, Lettered}
 use Rattle.rules.specs.Entries.{lettered, single_sample, staged_sample, readings_sample, section_for, judge_single}
 use Rattle.rules.specs.Entries.{judge_staged}
-use Rattle.rules.specs.Entries.{Offered, asked_on, on_supply, Closed, closed_with, single_event, staged_event, close_single}
+use Rattle.rules.specs.Entries.{Offered, asked_on, on_supply, Closed, closed_with, single_event, staged_event}
+use Rattle.rules.specs.Entries.{close_single}
 use Rattle.rules.specs.Entries.{close_staged, curtailed_plan, curtailed_sample, judge_curtailed, close_curtailed}
 use Rattle.rules.proofs.Answers.{refused-given, given-one}
 use Rattle.rules.proofs.Demands.Two.{single-plan-given, staged-plan-given}
@@ -181,7 +182,8 @@ module _ (s : Supply) (o : Offered) (book sample : List ℕ) (t : Bool) (range :
 
     pub single-out : (m k : ℕ) → t ≡ false
         → ◌≡◌ {A = Answer (Unit {0})} (refused m k) (on_sound (check_book book) (refused 1 0))
-        → x ≡ beside zero_plan plan_closed (refused m k) → x ≡ beside zero_plan plan_closed (close_single s o book sample)
+        → x ≡ beside zero_plan plan_closed (refused m k)
+        → x ≡ beside zero_plan plan_closed (close_single s o book sample)
     unfolding close_single
     single-out m k e first z =
         closes-out zero_plan s o book (λ q. judge_single q book sample) _ t range x m k e first z
@@ -217,7 +219,8 @@ module _ (s : Supply) (o : Offered) (book sample : List ℕ) (t : Bool) (range :
 
     pub staged-out : (m k : ℕ) → t ≡ false
         → ◌≡◌ {A = Answer (Unit {0})} (refused m k) (on_sound (check_book book) (refused 1 0))
-        → x ≡ beside no_stages plan_closed (refused m k) → x ≡ beside no_stages plan_closed (close_staged s o book sample)
+        → x ≡ beside no_stages plan_closed (refused m k)
+        → x ≡ beside no_stages plan_closed (close_staged s o book sample)
     unfolding close_staged
     staged-out m k e first z =
         closes-out no_stages s o book (λ q. judge_staged q book sample) _ t range x m k e first z

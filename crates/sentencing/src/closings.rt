@@ -1,7 +1,8 @@
 // What next: a lot closed from its sample, with the next record; beside it the plan, all 0 beside a refusal.
 ghost use Rattle.std.specs.Prelude.{◌≡◌};
 ghost use Rattle.rules.specs.Refusals.{and_then};
-ghost use Rattle.rules.specs.Entries.{on_supply, closed_with, staged_event, close_single, close_curtailed, close_staged};
+ghost use Rattle.rules.specs.Entries.{on_supply, closed_with, staged_event, close_single, close_curtailed};
+ghost use Rattle.rules.specs.Entries.{close_staged};
 ghost use Rattle.plans.specs.Paper.{beside, zero_plan};
 ghost use Rattle.entry.specs.Paper.{staged_paper, no_stages};
 ghost use Rattle.severity.specs.Paper.{record_paper};

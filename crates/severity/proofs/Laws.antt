@@ -12,8 +12,10 @@ use borrow.Author.Tests.{le-leb, lt-leb, eq-eqb, ne_eqb, lt-ltb, le-ltb}
 use Rattle.rules.specs.Refusals.{Answer, refused, given}
 use Rattle.rules.specs.Severity.{Lot, add_three, add_two, score_zero, not_accepted, accepted, Event}
 use Rattle.rules.specs.Severity.{resubmitted, unknown, Record, started}
-use Rattle.rules.specs.Severity.{on_normal, on_tightened, due, settled, score_after, window_after, lot_normal, lot_tightened}
-use Rattle.rules.specs.Severity.{on_lot, on_resubmitted, on_order, on_corrective, step, figures_in_range, score_and_window}
+use Rattle.rules.specs.Severity.{on_normal, on_tightened, due, settled, score_after, window_after, lot_normal}
+use Rattle.rules.specs.Severity.{lot_tightened}
+use Rattle.rules.specs.Severity.{on_lot, on_resubmitted, on_order, on_corrective, step, figures_in_range}
+use Rattle.rules.specs.Severity.{score_and_window}
 use Rattle.rules.specs.Severity.{no_score_or_window, run_and_count, no_run_or_count}
 use Rattle.rules.specs.History.{Work, knows, byte_events, event_of, event_in}
 use Rattle.rules.proofs.EventLaws.{lot-stopped}
@@ -266,7 +268,8 @@ range-none r (suc (suc (suc (suc s)))) h = refl
 
 -- the events of bytes
 module _ (w : Work) (b : ℕ) where
-  pub byte-is : (x : Event) (k : ℕ) → b ≡ k → x ≡ cond (knows w k) (get_or byte_events k unknown) unknown → x ≡ event_in w b
+  pub byte-is : (x : Event) (k : ℕ) → b ≡ k → x ≡ cond (knows w k) (get_or byte_events k unknown) unknown
+      → x ≡ event_in w b
   unfolding event_in event_of
   byte-is x k e q = rw e q
 

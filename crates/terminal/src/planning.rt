@@ -3,7 +3,8 @@ ghost use Rattle.std.specs.Prelude.{◌≡◌, ◌+◌, ◌/◌, ◌%◌, ◌≤
 ghost use Rattle.std.proofs.lemmas.List.Edits.{sets};
 ghost use Rattle.rules.specs.Codes.{table_one_letter};
 ghost use Rattle.rules.specs.Numbers.{number_bytes};
-ghost use Rattle.rules.specs.Entries.{single_plan, fractional_plan, staged_plan, sequential_plan, variables_plan, lettered};
+ghost use Rattle.rules.specs.Entries.{single_plan, fractional_plan, staged_plan, sequential_plan, variables_plan};
+ghost use Rattle.rules.specs.Entries.{lettered};
 ghost use Rattle.rules.specs.Terminal.{status_of, row_length, row_bytes};
 ghost use Rattle.entry.specs.Paper.{staged_paper};
 ghost use Rattle.terminal.specs.Lent.{asked, NumberLeft, PlanLeft, FractionalPlanLeft, StagedPlanLeft};

@@ -1,7 +1,8 @@
 // A supply's record in lent bytes: what a history byte or a lot makes of it, and the severities of a history.
 ghost use Rattle.std.specs.Prelude.{◌≡◌};
 ghost use Rattle.rules.specs.History.{ours};
-ghost use Rattle.rules.specs.Entries.{next, close_single, close_curtailed, close_staged, judge_fractional, close_fractional};
+ghost use Rattle.rules.specs.Entries.{next, close_single, close_curtailed, close_staged, judge_fractional};
+ghost use Rattle.rules.specs.Entries.{close_fractional};
 ghost use Rattle.rules.specs.Terminal.{supply_in};
 ghost use Rattle.terminal.specs.Lent.{offered, once, again, VerdictLeft, ClosedLeft, NextLeft, ListLeft};
 

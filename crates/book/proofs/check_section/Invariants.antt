@@ -8,7 +8,8 @@ use Rattle.book.specs.Paper.{InSection}
 use Rattle.book.proofs.check_section.Given as goal
 
 abbrev pub invariant-loop-i : goal.invariant-loop-i
-invariant-loop-i l = InSection (kind_at l.kind) (key_paper (kind_at l.kind) l.key) (numbers_of l.part) l.entries l.prev l.at l.seen l.i
+invariant-loop-i l =
+    InSection (kind_at l.kind) (key_paper (kind_at l.kind) l.key) (numbers_of l.part) l.entries l.prev l.at l.seen l.i
 
 abbrev pub decreases-loop-i : goal.decreases-loop-i
 decreases-loop-i l = l.entries - l.i

@@ -21,7 +21,8 @@ use Rattle.entry.specs.declared.Key.{Key}
 
 -- places in the part of the book from a section on are near
 bounded : (asked : ℕ) (key : Key) (bytes : List ℕ) (kind at held : ℕ) → length bytes < 18446744073709551616
-    → InWhole asked key bytes kind at held → kind < length kinds → (n : ℕ) → n ≤ length (drop at (numbers_of bytes)) → at + n < 10000000000000000000
+    → InWhole asked key bytes kind at held → kind < length kinds → (n : ℕ) → n ≤ length (drop at (numbers_of bytes))
+    → at + n < 10000000000000000000
 bounded asked key bytes kind at held fits inv below n h =
     omega (arith, length-drop at (numbers_of bytes), (inside inv below).within, numbers-low bytes)
 

@@ -83,7 +83,8 @@ returns-else-lot-plan c =
     ap (beside (without_letter zero_sequential) itself)
     (plan-given 2 known sequential_of (λ p. p.nt) (asked_paper
     c.args.lot) c.args.book.now _ _
-    (stands (goal.at.returns-else-lot-plan c).In-At) _ (read (goal.at.returns-else-lot-plan c).After-sequential_at-plan) c.if-lot-plan.false)
+    (stands (goal.at.returns-else-lot-plan c).In-At) _
+    (read (goal.at.returns-else-lot-plan c).After-sequential_at-plan) c.if-lot-plan.false)
 
 pub look_up-requires : goal.look_up-requires
 look_up-requires c = unchecked _

@@ -58,7 +58,8 @@ returns c =
     in
     c.join-2.ensures
     ∙ ap (beside zero_sides itself)
-    (ap (λ (x : Answer VariablesPlan). join_sides x (plan_alone c.readings_plan.result)) (upper (goal.at.returns c).After-readings_plan-upper)
+    (ap (λ (x : Answer VariablesPlan). join_sides x (plan_alone c.readings_plan.result))
+    (upper (goal.at.returns c).After-readings_plan-upper)
     ∙ ap (join_sides (readings_plan j q a.book.now)) l ∙ sym (sides-join j q a.lower a.book.now))
 
 pub readings_plan-upper-requires : goal.readings_plan-upper-requires

@@ -73,7 +73,8 @@ read c =
     let a = c.args in
     alone c
     ∙ few-stages a.lot.severity (letter_of a.lot.size a.lot.level) a.lot.column a.book.now _
-    (supplied-at 1 (asked_paper a.lot) a.book.now known (λ e. given e) _ _ (sym (ap supplied_paper c.in-At.is) ∙ c.look_up.ensures)).held
+    (supplied-at 1 (asked_paper a.lot) a.book.now known (λ e. given e) _ _ (sym (ap supplied_paper c.in-At.is)
+    ∙ c.look_up.ensures)).held
 
 few : (c : After-staged_at-plan) → c.staged_at-plan.result.stages ≤ 7
 few c =
@@ -91,7 +92,8 @@ returns-then-lot-total_size c =
     ∙ ap (beside (without_letter no_stages) itself)
     (plan-above 1 known staged_of items (asked_paper
     c.args.lot) c.args.book.now _ _
-    (stands (goal.at.returns-then-lot-total_size c).In-At) _ (read (goal.at.returns-then-lot-total_size c).After-staged_at-plan)
+    (stands (goal.at.returns-then-lot-total_size c).In-At) _
+    (read (goal.at.returns-then-lot-total_size c).After-staged_at-plan)
     (rw (← c.total_size.ensures) c.if-lot-total_size.true))
 
 pub returns-in-Refused : goal.returns-in-Refused
@@ -110,7 +112,8 @@ returns-else-lot-total_size c =
     ap (beside (without_letter no_stages) itself)
     (plan-given 1 known staged_of items (asked_paper
     c.args.lot) c.args.book.now _ _
-    (stands (goal.at.returns-else-lot-total_size c).In-At) _ (read (goal.at.returns-else-lot-total_size c).After-staged_at-plan) (rw
+    (stands (goal.at.returns-else-lot-total_size c).In-At) _
+    (read (goal.at.returns-else-lot-total_size c).After-staged_at-plan) (rw
     (← c.total_size.ensures) c.if-lot-total_size.false))
 
 pub look_up-requires : goal.look_up-requires

@@ -10,7 +10,8 @@ use Rattle.entry.proofs.rises_after.Given as goal
 abbrev pub invariant-loop-i : goal.invariant-loop-i
 invariant-loop-i l = (l.i ≤ l.key)
     × (rises (key_of (kind_at l.kind) (numbers_of l.before)) (key_of (kind_at l.kind) (numbers_of l.e))
-    ≡ rises (drop l.i (key_of (kind_at l.kind) (numbers_of l.before))) (drop l.i (key_of (kind_at l.kind) (numbers_of l.e))))
+    ≡ rises (drop l.i (key_of (kind_at l.kind) (numbers_of l.before)))
+    (drop l.i (key_of (kind_at l.kind) (numbers_of l.e))))
 
 abbrev pub decreases-loop-i : goal.decreases-loop-i
 decreases-loop-i l = l.key - l.i

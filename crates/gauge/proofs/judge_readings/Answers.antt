@@ -41,7 +41,9 @@ held : (c : Else-not-sides_hold) → sides_held (sides_paper c.args.plan) ≡ tr
 held c = sym c.sides_hold.ensures ∙ c.if-not-sides_hold.false
 
 pub returns-then-readings-plan : goal.returns-then-readings-plan
-returns-then-readings-plan c = sym (sample-length _ _ _ _ (held (goal.at.returns-then-readings-plan c).Else-not-sides_hold) c.if-readings-plan.true)
+returns-then-readings-plan c =
+    sym (sample-length _ _ _ _ (held (goal.at.returns-then-readings-plan c).Else-not-sides_hold)
+    c.if-readings-plan.true)
 
 pub sum_up-sums-requires : goal.sum_up-sums-requires
 sum_up-sums-requires c =
@@ -67,7 +69,8 @@ plain sides upper lower f g = rw (to_z-of_z w32 upper f, to_z-of_z w32 lower g)
 pub returns-then-not-limits_in : goal.returns-then-not-limits_in
 returns-then-not-limits_in c =
     let z = plain c.args.sides c.args.upper c.args.lower c.ranges.upper c.ranges.lower in
-    sym (sample-limits _ _ _ _ (held (goal.at.returns-then-not-limits_in c).Else-not-sides_hold) c.if-readings-plan.false
+    sym (sample-limits _ _ _ _ (held (goal.at.returns-then-not-limits_in c).Else-not-sides_hold)
+    c.if-readings-plan.false
     (sym c.sum_up-sums.ensures.range ∙ not-false _ c.if-not-sums.false)
     (sym c.spread_in.ensures ∙ c.if-not-spread_in.false)
     (ap limits_in (sym z) ∙ sym c.limits_in.ensures ∙ c.if-not-limits_in.true))
@@ -93,6 +96,7 @@ returns c =
     let hw = p.squares f ∙ ap (λ (k : ℕ). squares_from k c.sum_up-sums.result.t c.sum_up-sums.result.q) n in
     ap (λ (b : Bool). given (readings_verdict c.args.plan.n b))
     ((rw z at c.accepts-accepted.ensures) ∙ limits-from _ _ _ _ _ (sides_paper c.args.plan) hs hw)
-    ∙ sym (sample-judged _ _ _ _ (held (goal.at.returns c).Else-not-sides_hold) c.if-readings-plan.false (sym p.range ∙ f)
+    ∙ sym (sample-judged _ _ _ _ (held (goal.at.returns c).Else-not-sides_hold) c.if-readings-plan.false
+    (sym p.range ∙ f)
     (sym c.spread_in.ensures ∙ c.if-not-spread_in.false)
     (ap limits_in (sym z) ∙ sym c.limits_in.ensures ∙ c.if-not-limits_in.false))

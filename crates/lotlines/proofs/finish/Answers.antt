@@ -16,4 +16,5 @@ whole c = search rules
 
 pub returns : goal.returns
 returns c =
-    begun-ended _ _ _ _ _ (whole (goal.at.returns c).After-struct_known-1) c.if-state-eq0.false c.end_line-logged.ensures
+    begun-ended _ _ _ _ _ (whole (goal.at.returns c).After-struct_known-1) c.if-state-eq0.false
+    c.end_line-logged.ensures

@@ -34,6 +34,7 @@ pub returns : goal.returns
 returns g c =
     let piece = c.next_piece-got in
     let lines = c.log_lines.ensures in
-    more-lines c.requires (search rules) (search rules) piece.ensures (search rules) (search rules) (search rules) lines.0
+    more-lines c.requires (search rules) (search rules) piece.ensures (search rules) (search rules)
+    (search rules) lines.0
     lines.1
     (sym (length-take-le _ _ piece.ensures.fits))

@@ -5,7 +5,9 @@ use Rattle.lotstream.specs.Runs.{scene, Running}
 use Rattle.lotstream.proofs.run.Given as goal
 
 abbrev pub invariant-loop-turns : goal.invariant-loop-turns
-invariant-loop-turns g l = Running l.turns (scene l.turn l.input l.output) × (length l.output ≡ length l.initial.output) × (length l.input ≡ length l.initial.input)
+invariant-loop-turns g l =
+    Running l.turns (scene l.turn l.input l.output) × (length l.output ≡ length l.initial.output)
+    × (length l.input ≡ length l.initial.input)
 
 abbrev pub decreases-loop-turns : goal.decreases-loop-turns
 decreases-loop-turns g l = l.turns

@@ -20,4 +20,5 @@ returns c =
     let first = c.severity_name.ensures in
     let second = c.put_byte-named.ensures in
     let third = c.put_byte-spaced.ensures in
-    put-as (after-text args.severity args.score _ first) (then-put (then-put (then-put second third) c.put_number-scored.ensures) c.put_byte.ensures)
+    put-as (after-text args.severity args.score _ first)
+    (then-put (then-put (then-put second third) c.put_number-scored.ensures) c.put_byte.ensures)

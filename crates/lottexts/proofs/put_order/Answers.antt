@@ -21,4 +21,5 @@ pub returns : goal.returns
 returns c =
     let args = c.args in
     let first = c.put_number-counted.ensures in
-    put-as (order-text args.line args.severity args.score) (then-put (then-put first c.put_text-said.ensures) c.put_after.ensures)
+    put-as (order-text args.line args.severity args.score)
+    (then-put (then-put first c.put_text-said.ensures) c.put_after.ensures)

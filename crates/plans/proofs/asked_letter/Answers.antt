@@ -24,7 +24,8 @@ later c =
 
 pub returns-then-lot-gt-LAST_COLUMN : goal.returns-then-lot-gt-LAST_COLUMN
 returns-then-lot-gt-LAST_COLUMN c =
-    let at = (goal.at.returns-then-lot-gt-LAST_COLUMN c).In-Given in sym (later at ∙ rw (lt-ltb 25 (lot at).column c.if-lot-gt-LAST_COLUMN.true))
+    let at = (goal.at.returns-then-lot-gt-LAST_COLUMN c).In-Given in sym
+    (later at ∙ rw (lt-ltb 25 (lot at).column c.if-lot-gt-LAST_COLUMN.true))
 
 pub returns-then-lot-eq-STOPPED : goal.returns-then-lot-eq-STOPPED
 returns-then-lot-eq-STOPPED c =
@@ -44,4 +45,8 @@ returns-else-lot-eq-STOPPED c =
     let at = (goal.at.returns-else-lot-eq-STOPPED c).In-Given in
     sym
     (later at
-    ∙ rw (le-ltb 25 (lot at).column c.if-lot-gt-LAST_COLUMN.false, ne_eqb (lot at).severity 3 c.if-lot-eq-STOPPED.false))
+    ∙ rw (
+      le-ltb 25 (lot at).column c.if-lot-gt-LAST_COLUMN.false,
+      ne_eqb
+          (lot at).severity 3 c.if-lot-eq-STOPPED.false,
+    ))

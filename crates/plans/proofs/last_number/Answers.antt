@@ -9,9 +9,17 @@ returns-then-column-le20 c = rw (le-leb c.args.column 20 (omega (arith, c.if-col
 pub returns-then-column-le21 : goal.returns-then-column-le21
 returns-then-column-le21 c =
     let column = c.args.column in
-    rw (lt-leb column 20 (omega (arith, c.if-column-le20.false)), le-leb column 21 (omega (arith, c.if-column-le21.true)))
+    rw (
+      lt-leb column 20 (omega (arith, c.if-column-le20.false)),
+      le-leb column 21
+          (omega (arith, c.if-column-le21.true)),
+    )
 
 pub returns : goal.returns
 returns c =
     let column = c.args.column in
-    rw (lt-leb column 20 (omega (arith, c.if-column-le20.false)), lt-leb column 21 (omega (arith, c.if-column-le21.false)))
+    rw (
+      lt-leb column 20 (omega (arith, c.if-column-le20.false)),
+      lt-leb column 21
+          (omega (arith, c.if-column-le21.false)),
+    )

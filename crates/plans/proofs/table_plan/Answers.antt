@@ -25,7 +25,8 @@ has c = sym c.asked_letter.ensures ∙ ap letter_paper c.in-Given.is
 pub returns-then-lot-eq-REDUCED : goal.returns-then-lot-eq-REDUCED
 returns-then-lot-eq-REDUCED c =
     let at = (goal.at.returns-then-lot-eq-REDUCED c).In-Given in
-    c.unplanned-then-lot-eq-REDUCED.ensures ∙ sym (ap planned (plain-reduced (lot at) _ (has at) c.if-lot-eq-REDUCED.true))
+    c.unplanned-then-lot-eq-REDUCED.ensures
+    ∙ sym (ap planned (plain-reduced (lot at) _ (has at) c.if-lot-eq-REDUCED.true))
 
 pub plan_from-requires : goal.plan_from-requires
 plan_from-requires c =

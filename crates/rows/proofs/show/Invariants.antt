@@ -8,7 +8,8 @@ use Rattle.rows.specs.Paper.{Showing}
 use Rattle.rows.proofs.show.Given as goal
 
 abbrev pub invariant-loop-i : goal.invariant-loop-i
-invariant-loop-i l = Showing (kind_at l.kind) (numbers_of l.e) (drop (2 * (kind_at l.kind).width) l.initial.row) l.row l.i
+invariant-loop-i l =
+    Showing (kind_at l.kind) (numbers_of l.e) (drop (2 * (kind_at l.kind).width) l.initial.row) l.row l.i
 
 abbrev pub decreases-loop-i : goal.decreases-loop-i
 decreases-loop-i l = l.size - l.i

@@ -161,7 +161,8 @@ module _ (q : Asked) (book : List ℕ) where
   curtailed-as-single plain = rw (ne_eqb q.severity reduced plain)
 
   pub unplanned-alike : (n p : ℕ) → (q.severity ≡ reduced → ⊥) → single_plan q book ≡ refused n p
-      → (sample full : List ℕ) → (judge_curtailed q book sample ≡ refused n p) × (judge_single q book full ≡ refused n p)
+      → (sample full : List ℕ)
+      → (judge_curtailed q book sample ≡ refused n p) × (judge_single q book full ≡ refused n p)
   unfolding judge_curtailed judge_single
   unplanned-alike n p plain e sample full =
       let f : curtailed_plan q book ≡ refused n p = curtailed-as-single plain ∙ e in

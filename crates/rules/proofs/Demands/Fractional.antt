@@ -222,7 +222,8 @@ module _ (s : Supply) (o : Offered) (book sample : List ℕ) where
             λ e.
             rw e
             (check 1 (not (supply_in_range s)) (not-true (supply_in_range s)) (λ f. ap not f) (le_refl 1)
-            (judged-reports (fractional_plan asked book) (on_plan s o sample) ((fractional-plan-refused asked book).else e)
+            (judged-reports (fractional_plan asked book) (on_plan s o sample)
+            ((fractional-plan-refused asked book).else e)
             (λ p f. seen-from 1 (omega arith) (shared-refused _ o.column sample p))));
       }
 

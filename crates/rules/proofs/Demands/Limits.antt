@@ -55,7 +55,8 @@ module _ (section : ℕ) (q : Asked) (lower : ℕ) (book : List ℕ) where
       let p = found-one (sym x ∙ a) in
       let r = found-one (sym y ∙ b) in
       absurd (n (ap (λ (z : List ℕ). (variables_of z).n) p ∙ s ∙ sym (ap (λ (z : List ℕ). (variables_of z).n) r)))
-  differ-or-above e f a b (above c x h) s = subst (λ (z : List ℕ). q.size < (variables_of z).n) (found-one (sym x ∙ a)) h
+  differ-or-above e f a b (above c x h) s =
+      subst (λ (z : List ℕ). q.size < (variables_of z).n) (found-one (sym x ∙ a)) h
 
   both-report : (e f : List ℕ) → upper_found ≡ found e → lower_found ≡ found f → (t : Bool)
       → eqb (variables_of e).n (variables_of f).n ≡ t
@@ -179,7 +180,8 @@ module _ (m : Spread) (q : Asked) (book readings : List ℕ) where
         (judge_sides m limits q lower book readings)
     unfolding judge_sides
     judge-sides-refused =
-        judged-on-book (sides_plan (section_for m) q lower book) _ book (sides-plan-refused (section_for m) q lower book)
+        judged-on-book (sides_plan (section_for m) q lower book) _ book
+        (sides-plan-refused (section_for m) q lower book)
         (λ plan. seen-from 1 (omega arith) (limits-refused m limits readings plan))
 
     pub judge-sides-given : (j : Judged SidesPlan Verdict)

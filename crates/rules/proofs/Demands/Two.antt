@@ -385,7 +385,8 @@ module _ (s : Supply) (o : Offered) (total : ℕ) where
   abbrev asked : Asked
   asked = asked_on s.switching o
 
-  pub close-total-refused : Reports 1 (Row 1 (supply_in_range s ≡ false) (TotalRows asked total)) (close_total s o total)
+  pub close-total-refused : Reports 1 (Row 1 (supply_in_range s ≡ false) (TotalRows asked total))
+      (close_total s o total)
   unfolding close_total
   close-total-refused =
       closing-reports s (judge_total asked total) (single_event s.switching o) (judge-total-refused asked total)
@@ -548,7 +549,8 @@ module _ (w : Work) (h : List ℕ) where
     listed-refused n k = (λ e. so (after_history w h) refl e, back)
       where
         so : (a : Answer Record) → after_history w h ≡ a
-            → and_then a (λ r. first_of ((ltb room (length h) gives buffer_short) ∷ []) (given (length h))) ≡ refused n k
+            → and_then a (λ r. first_of ((ltb room (length h) gives buffer_short) ∷ []) (given (length h)))
+            ≡ refused n k
             → (after_history w h ≡ refused n k)
             ⊎ (((r : Record) × (after_history w h ≡ given r)) × (room < length h) × (n ≡ 11) × (k ≡ 0))
         so (refused i p) q e =

@@ -298,7 +298,8 @@ module _ (book : List ℕ) (j : ℕ) where
 
     pub entry-given : (row : List ℕ)
         → (read_entry book j nth room ≡ given row)
-        ↔ ((check_book book ≡ sound) × (nth < length held) × (2 * (kind_at j).width ≤ room) × (get_or held nth [] ≡ row))
+        ↔ ((check_book book ≡ sound) × (nth < length held) × (2 * (kind_at j).width ≤ room)
+        × (get_or held nth [] ≡ row))
     unfolding read_entry
     entry-given row =
         let outer = sound-given (check_book book) _ row in

@@ -6,7 +6,8 @@ use Rattle.entry.specs.Paper.{sequential_paper}
 use Rattle.samples.proofs.sequential_sample.Given as goal
 
 abbrev pub invariant-loop-i : goal.invariant-loop-i
-invariant-loop-i l = (l.i ≤ l.have) × (l.i ≤ 65534) × (l.d ≤ l.i) × SequentialAt (sequential_paper l.plan) l.sample l.i l.d
+invariant-loop-i l =
+    (l.i ≤ l.have) × (l.i ≤ 65534) × (l.d ≤ l.i) × SequentialAt (sequential_paper l.plan) l.sample l.i l.d
 
 abbrev pub decreases-loop-i : goal.decreases-loop-i
 decreases-loop-i l = l.have - l.i

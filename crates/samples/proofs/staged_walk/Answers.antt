@@ -22,7 +22,8 @@ sized c = ap (λ (s : Stage). s.size) c.stage_at-stage.ensures
 pub returns-in-Missing : goal.returns-in-Missing
 returns-in-Missing c =
     let so = sym c.take_items.ensures.0 ∙ ap (taken_paper _) c.in-Missing.is in
-    sym (staged-missing c.loop-i.invariant.4 (omega arith) (sized (goal.at.returns-in-Missing c).After-stage_at-stage) so)
+    sym (staged-missing c.loop-i.invariant.4 (omega arith) (sized (goal.at.returns-in-Missing c).After-stage_at-stage)
+    so)
 
 pub returns-in-Over : goal.returns-in-Over
 returns-in-Over c =
@@ -41,7 +42,8 @@ returns-in-Decides c =
     ap (λ (s : Stage). stage_decides s c.in-Total.t) (sym c.stage_at-stage.ensures)
     ∙ sym c.stage_decides.ensures ∙ ap decision_paper c.in-Decides.is in
     c.ended_with.ensures
-    ∙ sym (staged-decides c.loop-i.invariant.4 (omega arith) (sized (goal.at.returns-in-Decides c).After-stage_at-stage) took _ so)
+    ∙ sym (staged-decides c.loop-i.invariant.4 (omega arith)
+    (sized (goal.at.returns-in-Decides c).After-stage_at-stage) took _ so)
 
 pub loop-i-preserved : goal.loop-i-preserved
 loop-i-preserved c =
@@ -53,7 +55,8 @@ loop-i-preserved c =
       taken-there _ _ _ _ _ _ _ (omega arith) took,
       omega arith,
       omega (arith, c.take_items.ensures.1, ap taken_total c.in-Total.is),
-      staged-goes c.loop-i.invariant.4 (omega arith) (sized (goal.at.loop-i-preserved c).After-stage_at-stage) took goes,
+      staged-goes c.loop-i.invariant.4 (omega arith) (sized (goal.at.loop-i-preserved c).After-stage_at-stage) took
+          goes,
     )
 
 pub returns : goal.returns

@@ -21,7 +21,8 @@ returns c =
     c.show_entry.ensures
     ∙ ap (λ (l : List ℕ). entry_shown (kind_at c.args.kind) l c.args.row.now)
     (numbers-part c.args.book.now c.entry_place-place.result)
-    ∙ row-shown c.requires c.entry_place-place.result (place-is c.requires c.entry_place-place.result c.entry_place-place.ensures)
+    ∙ row-shown c.requires c.entry_place-place.result
+    (place-is c.requires c.entry_place-place.result c.entry_place-place.ensures)
 
 pub overflow_cast-nth : goal.overflow_cast-nth
 overflow_cast-nth c = omega (arith, c.requires.there, c.requires.few)

@@ -30,7 +30,8 @@ module _ (d : After-walk_row-more) where
   prev = d.loop-at.prev
 
   told : d.walk_row-more.result
-      ≡ row_size k (key_of k (numbers_of (take (at - prev) (drop prev list)))) (take k.width (numbers_of (drop at list)))
+      ≡ row_size k (key_of k (numbers_of (take (at - prev) (drop prev list))))
+      (take k.width (numbers_of (drop at list)))
   told =
       let rest : take (length list - at) (drop at list) ≡ drop at list =
       take_all (length list - at) (drop at list) (omega (arith, length-drop at list)) in
@@ -52,11 +53,13 @@ loop-at-init c = list-opens _ (rowed c.args.kind c.requires) _
 
 pub returns-then-more-eq0 : goal.returns-then-more-eq0
 returns-then-more-eq0 c =
-    list-bad _ (rowed c.args.kind c.requires) _ c.loop-at.invariant (omega arith) (told (goal.at.returns-then-more-eq0 c).After-walk_row-more)
+    list-bad _ (rowed c.args.kind c.requires) _ c.loop-at.invariant (omega arith)
+    (told (goal.at.returns-then-more-eq0 c).After-walk_row-more)
     c.if-more-eq0.true
 
 pub overflow_add-size : goal.overflow_add-size
-overflow_add-size c = let n = next (goal.at.overflow_add-size c).After-walk_row-more (omega arith) in omega (arith, n.short, n.within)
+overflow_add-size c =
+    let n = next (goal.at.overflow_add-size c).After-walk_row-more (omega arith) in omega (arith, n.short, n.within)
 
 pub overflow_add-at : goal.overflow_add-at
 overflow_add-at c =

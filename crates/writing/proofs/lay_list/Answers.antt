@@ -28,7 +28,8 @@ module _ (d : Else-kind-eq-STAGED) where
   same : (number_bytes (laid k (rows_of k list)) ≡ list) × (length list ≡ 2 * length (laid k (rows_of k list)))
   same =
       let n = d.args.kind in
-      plain-bytes k (rowed n d.requires.0) (λ m. plain-size m n d.if-kind-eq-STAGED.false) (λ m i. plain-place m i n d.if-kind-eq-STAGED.false)
+      plain-bytes k (rowed n d.requires.0) (λ m. plain-size m n d.if-kind-eq-STAGED.false)
+      (λ m i. plain-place m i n d.if-kind-eq-STAGED.false)
       list (λ i. omega (arith, d.shared_slice_known-1.given i)) d.requires.1.right
 
 pub overflow_mul-at : goal.overflow_mul-at
@@ -37,11 +38,23 @@ overflow_mul-at c =
 
 pub copy_bytes-requires : goal.copy_bytes-requires
 copy_bytes-requires c =
-    omega (arith, (same (goal.at.copy_bytes-requires c).Else-kind-eq-STAGED).1, c.requires.1.room, numbers-low c.args.out.now)
+    omega (
+      arith,
+      (same (goal.at.copy_bytes-requires c).Else-kind-eq-STAGED).1,
+      c.requires.1.room,
+      numbers-low
+          c.args.out.now,
+    )
 
 pub overflow_add-result : goal.overflow_add-result
 overflow_add-result c =
-    omega (arith, (same (goal.at.overflow_add-result c).Else-kind-eq-STAGED).1, c.requires.1.room, numbers-low c.args.out.now)
+    omega (
+      arith,
+      (same (goal.at.overflow_add-result c).Else-kind-eq-STAGED).1,
+      c.requires.1.room,
+      numbers-low
+          c.args.out.now,
+    )
 
 pub returns : goal.returns
 returns c =

@@ -8,7 +8,8 @@ use Rattle.writing.specs.Paper.{lists, LayingLists}
 use Rattle.writing.proofs.lay_lists.Given as goal
 
 abbrev pub invariant-loop-kind : goal.invariant-loop-kind
-invariant-loop-kind l = LayingLists (lent_rows (lists l.reduced l.staged l.sequential l.variables l.sigma)) l.initial.out l.kind l.at l.out
+invariant-loop-kind l =
+    LayingLists (lent_rows (lists l.reduced l.staged l.sequential l.variables l.sigma)) l.initial.out l.kind l.at l.out
 
 abbrev pub decreases-loop-kind : goal.decreases-loop-kind
 decreases-loop-kind l = length kinds - l.kind

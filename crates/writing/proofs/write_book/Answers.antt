@@ -46,4 +46,5 @@ returns-in-Bad c =
 pub returns-else-size-gt-LARGEST_BOOK : goal.returns-else-size-gt-LARGEST_BOOK
 returns-else-size-gt-LARGEST_BOOK c =
     let d = (goal.at.returns-else-size-gt-LARGEST_BOOK c).After-check_lists in
-    tell-written (lent d) _ c.in-Right.field-0 _ (checked d c.in-Right.is) (omega arith) (omega arith) c.lay_lists.ensures
+    tell-written (lent d) _ c.in-Right.field-0 _ (checked d c.in-Right.is) (omega arith)
+    (omega arith) c.lay_lists.ensures

@@ -10,7 +10,8 @@ use Rattle.terminal.proofs.planning.put_seven.Given as goal
 abbrev pub invariant-loop-i : goal.invariant-loop-i
 invariant-loop-i l = (l.i ≤ 7)
     × (length l.row ≡ length l.initial.row)
-    × (sets l.row (l.from + 2 * l.i) (number_bytes (drop l.i l.numbers)) ≡ sets l.initial.row l.from (number_bytes l.numbers))
+    × (sets l.row (l.from + 2 * l.i) (number_bytes (drop l.i l.numbers)) ≡ sets l.initial.row l.from
+    (number_bytes l.numbers))
 
 abbrev pub decreases-loop-i : goal.decreases-loop-i
 decreases-loop-i l = 7 - l.i

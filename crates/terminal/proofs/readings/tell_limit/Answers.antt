@@ -31,9 +31,11 @@ judging c =
 pub tell_verdict-requires : goal.tell_verdict-requires
 tell_verdict-requires c =
     let j = c.judge_limit-judged.result in
-    limit-fits _ _ _ _ _ _ j.answer (variables_paper j.plan) (judging (goal.at.tell_verdict-requires c).After-judge_limit-judged)
+    limit-fits _ _ _ _ _ _ j.answer (variables_paper j.plan)
+    (judging (goal.at.tell_verdict-requires c).After-judge_limit-judged)
 
 pub returns : goal.returns
 returns c =
     let j = c.judge_limit-judged.result in
-    verdict-left j.answer (variables_paper j.plan) (judging (goal.at.returns c).After-judge_limit-judged) c.tell_verdict.ensures
+    verdict-left j.answer (variables_paper j.plan) (judging (goal.at.returns c).After-judge_limit-judged)
+    c.tell_verdict.ensures

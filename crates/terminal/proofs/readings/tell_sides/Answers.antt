@@ -30,9 +30,11 @@ judging c =
 pub tell_verdict-requires : goal.tell_verdict-requires
 tell_verdict-requires c =
     let j = c.judge_sides-judged.result in
-    sides-fits _ _ _ _ _ _ j.answer (sides_paper j.plan) (judging (goal.at.tell_verdict-requires c).After-judge_sides-judged)
+    sides-fits _ _ _ _ _ _ j.answer (sides_paper j.plan)
+    (judging (goal.at.tell_verdict-requires c).After-judge_sides-judged)
 
 pub returns : goal.returns
 returns c =
     let j = c.judge_sides-judged.result in
-    verdict-left j.answer (sides_paper j.plan) (judging (goal.at.returns c).After-judge_sides-judged) c.tell_verdict.ensures
+    verdict-left j.answer (sides_paper j.plan) (judging (goal.at.returns c).After-judge_sides-judged)
+    c.tell_verdict.ensures

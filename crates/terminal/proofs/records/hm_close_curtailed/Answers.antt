@@ -30,7 +30,8 @@ closing c =
 pub tell_closed-requires : goal.tell_closed-requires
 tell_closed-requires c =
     let j = c.close_curtailed-closed.result in
-    curtailed-closes _ _ _ _ j.answer (plan_paper j.plan) (closing (goal.at.tell_closed-requires c).After-close_curtailed-closed)
+    curtailed-closes _ _ _ _ j.answer (plan_paper j.plan)
+    (closing (goal.at.tell_closed-requires c).After-close_curtailed-closed)
 
 pub returns : goal.returns
 returns c =

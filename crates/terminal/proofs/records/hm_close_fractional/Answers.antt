@@ -30,7 +30,8 @@ closing c =
 pub tell_closed-requires : goal.tell_closed-requires
 tell_closed-requires c =
     let j = c.close_fractional-closed.result in
-    fractional-closes _ _ _ _ j.answer (fractional_paper j.plan) (closing (goal.at.tell_closed-requires c).After-close_fractional-closed)
+    fractional-closes _ _ _ _ j.answer (fractional_paper j.plan)
+    (closing (goal.at.tell_closed-requires c).After-close_fractional-closed)
 
 pub returns : goal.returns
 returns c =

@@ -29,7 +29,8 @@ closing c =
 pub tell_closed-requires : goal.tell_closed-requires
 tell_closed-requires c =
     let j = c.close_single-closed.result in
-    single-closes _ _ _ _ j.answer (plan_paper j.plan) (closing (goal.at.tell_closed-requires c).After-close_single-closed)
+    single-closes _ _ _ _ j.answer (plan_paper j.plan)
+    (closing (goal.at.tell_closed-requires c).After-close_single-closed)
 
 pub returns : goal.returns
 returns c =

@@ -29,7 +29,8 @@ closing c =
 pub tell_closed-requires : goal.tell_closed-requires
 tell_closed-requires c =
     let j = c.close_staged-closed.result in
-    staged-closes _ _ _ _ j.answer (staged_paper j.plan) (closing (goal.at.tell_closed-requires c).After-close_staged-closed)
+    staged-closes _ _ _ _ j.answer (staged_paper j.plan)
+    (closing (goal.at.tell_closed-requires c).After-close_staged-closed)
 
 pub returns : goal.returns
 returns c =

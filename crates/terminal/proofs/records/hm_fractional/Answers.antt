@@ -28,7 +28,8 @@ judging c =
 pub tell_verdict-requires : goal.tell_verdict-requires
 tell_verdict-requires c =
     let j = c.judge_fractional-judged.result in
-    fractional-fits _ _ _ _ j.answer (fractional_paper j.plan) (judging (goal.at.tell_verdict-requires c).After-judge_fractional-judged)
+    fractional-fits _ _ _ _ j.answer (fractional_paper j.plan)
+    (judging (goal.at.tell_verdict-requires c).After-judge_fractional-judged)
 
 pub returns : goal.returns
 returns c =
