@@ -18,14 +18,19 @@ use Rattle.rules.proofs.Numbers.{numbers-low}
 use Rattle.rules.proofs.Steps.{fifth-none, fifth-empty, fifth-is, all-next, all-broken, all-short}
 use Rattle.entry.specs.Paper.{key_paper}
 use Rattle.entry.specs.declared.Key.{Key}
-use Rattle.book.specs.Places.{under_from, section_place, place_of, held_past}
-use Rattle.book.specs.Paper.{SectionsEnd, BookRead, InBook, is_absent, has_none, InWhole}
-use Rattle.book.specs.declared.Stretch.TheVariants.{Ends, Broken, Short}
-use Rattle.book.proofs.Loops.{read-ends, read-broken, read-short, ends-of, broken-of, short-of, place-at}
+use Rattle.book.specs.Places.{under_from, section_place, onward, place_of, held_past}
+use Rattle.book.specs.Paper.{ReadTo, SectionsEnd, BookRead, InBook, is_absent, has_none, InWhole}
+use Rattle.std.specs.Prelude.{Option, None, Ok, Err}
+use Rattle.entry.specs.declared.Fault.{Fault}
+use Rattle.entry.specs.declared.Fault.TheVariants.{Broken, Short}
+use Rattle.book.specs.declared.Section.{Section}
+use Rattle.rules.proofs.Walks.{place-section}
+use Rattle.book.proofs.Loops.{ends-near, ends-shifted, broken-shifted, short-shifted}
+use Rattle.book.proofs.Loops.{ended, read-ends, read-broken, read-short, ends-of, broken-of, short-of, place-at}
 use Rattle.book.proofs.Loops.{place-none, book-opens, book-next, book-broken, book-shorts, book-done}
 
 -- what follows the four sections, which end at a place with one held
-module _ {asked : ℕ} {key : Key} {at held : ℕ} (bytes : List ℕ)
+module _ {asked : ℕ} {key : Key} {at : ℕ} {held : Option ℕ} (bytes : List ℕ)
     (four : SectionsEnd asked key (numbers_of bytes) at held)
   where
     abbrev len : ℕ
@@ -37,7 +42,7 @@ module _ {asked : ℕ} {key : Key} {at held : ℕ} (bytes : List ℕ)
     abbrev rest : List ℕ
     rest = drop at numbers
 
-    abbrev in_rest : ℕ
+    abbrev in_rest : Option ℕ
     in_rest = section_place sigma (key_paper sigma key) rest
 
     -- the place under the key, in the whole book
@@ -58,7 +63,7 @@ module _ {asked : ℕ} {key : Key} {at held : ℕ} (bytes : List ℕ)
     walk-is : (w : Walk) → fifth len at rest ≡ w → shift at w ≡ all_sections len numbers
     walk-is w e = sym (all-next len numbers at four.reads ∙ ap (shift at) e)
 
-    pub fifth-absent : len ≤ 2 * at → BookRead asked key bytes (Ends at held)
+    pub fifth-absent : len ≤ 2 * at → BookRead asked key bytes (ended at held)
     unfolding shift under_from
     fifth-absent h =
         let z : at + 0 ≡ at = omega arith in
@@ -70,12 +75,12 @@ module _ {asked : ℕ} {key : Key} {at held : ℕ} (bytes : List ℕ)
             by-le asked 3 (λ h. rw (ne_eqb 4 asked (λ e. omega arith)))
             (λ h. rw e (go (eqb 4 asked) (sym (four.holds ∙ rw (le-ltb asked 4 (omega arith))))))
           where
-            go : (t : Bool) → 0 ≡ held → cond t 0 held ≡ held
+            go : (t : Bool) → None ≡ held → cond t None held ≡ held
             go true q = q
             go false q = refl
 
     module _ (more : 2 * at < len) where
-      pub fifth-zero : 0 < length rest → get_or rest 0 0 ≡ 0 → BookRead asked key bytes (Broken at)
+      pub fifth-zero : 0 < length rest → get_or rest 0 0 ≡ 0 → BookRead asked key bytes (Err (Broken at))
       unfolding shift
       fifth-zero l z =
           let e : at + 0 ≡ at = omega arith in
@@ -85,39 +90,40 @@ module _ {asked : ℕ} {key : Key} {at held : ℕ} (bytes : List ℕ)
         walk-fifth : (w : Walk) → w ≡ section sigma rest → shift at w ≡ all_sections len numbers
         walk-fifth w e = walk-is w (fifth-is len at rest more some ∙ sym e)
 
-        pub fifth-ends : {size seen now : ℕ} → ends size ≡ section sigma rest → seen ≡ in_rest
-            → now ≡ held_past 4 asked held at seen → BookRead asked key bytes (Ends (at + size) now)
+        pub fifth-ends : {size : ℕ} {seen now : Option ℕ} → ends size ≡ section sigma rest → seen ≡ in_rest
+            → now ≡ held_past 4 asked held at seen → BookRead asked key bytes (ended (at + size) now)
         unfolding shift
         fifth-ends {size} e s f =
             read-ends (walk-fifth (ends size) e)
             (f ∙ ap (held_past 4 asked held at) s ∙ sym last-held)
 
-        pub fifth-broken : {p : ℕ} → broken p ≡ section sigma rest → BookRead asked key bytes (Broken (at + p))
+        pub fifth-broken : {p : ℕ} → broken p ≡ section sigma rest → BookRead asked key bytes (Err (Broken (at + p)))
         unfolding shift
         fifth-broken {p} e = read-broken (walk-fifth (broken p) e)
 
-        pub fifth-shorts : short ≡ section sigma rest → BookRead asked key bytes Short
+        pub fifth-shorts : short ≡ section sigma rest → BookRead asked key bytes (Err Short)
         unfolding shift
         fifth-shorts e = read-short (walk-fifth short e)
 
 -- four sections that do not end
 module _ (asked : ℕ) (key : Key) (bytes : List ℕ) where
-  pub four-broken : {p : ℕ} → broken p ≡ sections always (numbers_of bytes) → BookRead asked key bytes (Broken p)
+  pub four-broken : {p : ℕ} → broken p ≡ sections always (numbers_of bytes) → BookRead asked key bytes (Err (Broken p))
   four-broken {p} q = read-broken (sym (all-broken (length bytes) (numbers_of bytes) p q))
 
-  pub four-short : short ≡ sections always (numbers_of bytes) → BookRead asked key bytes Short
+  pub four-short : short ≡ sections always (numbers_of bytes) → BookRead asked key bytes (Err Short)
   four-short q = read-short (sym (all-short (length bytes) (numbers_of bytes) q))
 
 -- the loop over all sections
-pub whole-opens : {asked : ℕ} {key : Key} {bytes : List ℕ} → InWhole asked key bytes 0 0 0
-whole-opens = record { counted = omega arith; four = λ h. book-opens; all = λ h. absurd (omega arith) }
+pub whole-opens : {asked : ℕ} {key : Key} {bytes : List ℕ} → InWhole asked key bytes 0 0 None
+whole-opens = record { within = omega arith; four = λ h. book-opens; all = λ h. absurd (omega arith) }
 
-pub whole-done : {asked : ℕ} {key : Key} {bytes : List ℕ} {kind at held : ℕ} → InWhole asked key bytes kind at held
-    → length kinds ≤ kind → BookRead asked key bytes (Ends at held)
+-- .. past the last the book is read
+pub whole-done : {asked : ℕ} {key : Key} {bytes : List ℕ} {kind at : ℕ} {held : Option ℕ}
+    → InWhole asked key bytes kind at held → length kinds ≤ kind → BookRead asked key bytes (ended at held)
 whole-done b h = b.all (omega arith)
 
-module _ {asked : ℕ} {key : Key} {bytes : List ℕ} {kind at held : ℕ} (b : InWhole asked key bytes kind at held)
-    (h : kind < length kinds) where
+module _ {asked : ℕ} {key : Key} {bytes : List ℕ} {kind at : ℕ} {held : Option ℕ}
+    (b : InWhole asked key bytes kind at held) (h : kind < length kinds) where
   abbrev left : List ℕ
   left = drop at (numbers_of bytes)
 
@@ -131,22 +137,22 @@ module _ {asked : ℕ} {key : Key} {bytes : List ℕ} {kind at held : ℕ} (b : 
   pub inside : InBook asked key (numbers_of bytes) kind at held
   inside = b.four (omega arith)
 
-  ended : kind ≡ 4 → SectionsEnd asked key (numbers_of bytes) at held
-  ended e = let q = ends-of (book-done inside (omega arith)) refl in record { reads = q.0; holds = q.1 }
+  four-end : kind ≡ 4 → SectionsEnd asked key (numbers_of bytes) at held
+  four-end e = let q = ends-of (book-done inside (omega arith)) refl in record { reads = q.0; holds = q.1 }
 
-  pub whole-absent : is_absent kind part ≡ true → BookRead asked key bytes (Ends at held)
+  pub whole-absent : is_absent kind part ≡ true → BookRead asked key bytes (ended at held)
   whole-absent t =
       let e = eqb-true kind 4 (and-left (eqb kind 4) _ t) in
       let z = eqb-true (length part) 0 (and-right (eqb kind 4) _ t) in
-      fifth-absent bytes (ended e) (omega (arith, z, part-length))
+      fifth-absent bytes (four-end e) (omega (arith, z, part-length))
 
-  pub whole-none : has_none kind left ≡ true → BookRead asked key bytes (Broken at)
+  pub whole-none : has_none kind left ≡ true → BookRead asked key bytes (Err (Broken at))
   whole-none t =
       let e = eqb-true kind 4 (and-left (eqb kind 4) _ t) in
       let r = and-right (eqb kind 4) _ t in
       let some : 0 < length left = ltb-true 0 (length left) (and-left (ltb 0 (length left)) _ r) in
       let z = eqb-true (get_or left 0 0) 0 (and-right (ltb 0 (length left)) _ r) in
-      fifth-zero bytes (ended e) (omega (arith, some, length-drop at (numbers_of bytes), numbers-low bytes)) some z
+      fifth-zero bytes (four-end e) (omega (arith, some, length-drop at (numbers_of bytes), numbers-low bytes)) some z
 
   module _ (there : is_absent kind part ≡ false) (some : has_none kind left ≡ false) where
     more : kind ≡ 4 → 2 * at < length bytes
@@ -159,41 +165,63 @@ module _ {asked : ℕ} {key : Key} {bytes : List ℕ} {kind at held : ℕ} (b : 
         let f : eqb (get_or left 0 0) 0 ≡ false = rw (eq-eqb kind 4 e, lt-ltb 0 (length left) l) at some in
         by-le (get_or left 0 0) 0 (λ n. absurd (eqb-false (get_or left 0 0) 0 f (omega arith))) (λ n. n)
 
-    pub whole-next : {size seen now : ℕ} → ends size ≡ section (kind_at kind) left
+    pub whole-next : {size : ℕ} {seen now : Option ℕ} → ends size ≡ section (kind_at kind) left
         → seen ≡ section_place (kind_at kind) (key_paper (kind_at kind) key) left
         → now ≡ held_past kind asked held at seen → InWhole asked key bytes (kind + 1) (at + size) now
     whole-next {size} {seen} q f g =
+        let near : at + size ≤ length (numbers_of bytes) =
+        ends-near at (numbers_of bytes) (place-section (kind_at kind) left) b.within q in
         by-le kind 3
         (λ l.
         record {
-          counted = omega arith;
+          within = near;
           four = λ x. book-next inside (omega arith) q f g;
           all = λ x. absurd (omega arith);
         })
         (λ l.
         let e : kind ≡ 4 = omega arith in
         record {
-          counted = omega arith;
+          within = near;
           four = λ x. absurd (omega arith);
           all =
               λ x.
-              fifth-ends bytes (ended e) (more e) (counts e) (q ∙ ap (λ (k : ℕ). section (kind_at k) left) e)
+              fifth-ends bytes (four-end e) (more e) (counts e) (q ∙ ap (λ (k : ℕ). section (kind_at k) left) e)
               (f ∙ ap (λ (k : ℕ). section_place (kind_at k) (key_paper (kind_at k) key) left) e)
               (g ∙ ap (λ (k : ℕ). held_past k asked held at seen) e);
         })
 
-    pub whole-broken : {p : ℕ} → broken p ≡ section (kind_at kind) left → BookRead asked key bytes (Broken (at + p))
+    pub whole-broken : {p : ℕ} → broken p ≡ section (kind_at kind) left
+        → BookRead asked key bytes (Err (Broken (at + p)))
     whole-broken {p} q =
         by-le kind 3
         (λ l. four-broken asked key bytes (broken-of (book-broken inside (omega arith) q) refl))
         (λ l.
         let e : kind ≡ 4 = omega arith in
-        fifth-broken bytes (ended e) (more e) (counts e) (q ∙ ap (λ (k : ℕ). section (kind_at k) left) e))
+        fifth-broken bytes (four-end e) (more e) (counts e) (q ∙ ap (λ (k : ℕ). section (kind_at k) left) e))
 
-    pub whole-shorts : short ≡ section (kind_at kind) left → BookRead asked key bytes Short
+    pub whole-shorts : short ≡ section (kind_at kind) left → BookRead asked key bytes (Err Short)
     whole-shorts q =
         by-le kind 3
         (λ l. four-short asked key bytes (short-of (book-shorts inside (omega arith) q) refl))
         (λ l.
         let e : kind ≡ 4 = omega arith in
-        fifth-shorts bytes (ended e) (more e) (counts e) (q ∙ ap (λ (k : ℕ). section (kind_at k) left) e))
+        fifth-shorts bytes (four-end e) (more e) (counts e) (q ∙ ap (λ (k : ℕ). section (kind_at k) left) e))
+
+    -- what the section was read to
+    abbrev its-walk : Walk
+    its-walk = shift at (section (kind_at kind) left)
+
+    abbrev its-place : Option ℕ
+    its-place = onward at (section_place (kind_at kind) (key_paper (kind_at kind) key) left)
+
+    pub whole-on : {s : Section} {now : Option ℕ} → ReadTo its-walk its-place (Ok s)
+        → now ≡ cond (eqb kind asked) s.seen held → InWhole asked key bytes (kind + 1) s.end now
+    whole-on t g =
+        let e = ends-of t refl in
+        let r = ends-shifted at (section (kind_at kind) left) e.0 in
+        rw r.2 (whole-next r.1 refl (g ∙ ap (λ (x : Option ℕ). cond (eqb kind asked) x held) e.1))
+
+    pub whole-fault : {e : Fault} → ReadTo its-walk its-place (Err e) → BookRead asked key bytes (Err e)
+    whole-fault {e = Broken p} t =
+        let r = broken-shifted at (section (kind_at kind) left) (broken-of t refl) in rw r.2 (whole-broken r.1)
+    whole-fault {e = Short} t = whole-shorts (short-shifted at (section (kind_at kind) left) (short-of t refl))

@@ -1,3 +1,4 @@
+pub mod Bounds
 mod Fifth
 pub mod Laid
 mod Loops

@@ -1,13 +1,14 @@
 -- The loop over the entries of a section, and the four sections that every book has: a law for each step.
 -- Assumes nothing.
 use Prim.Native.Nat.{ℕ, zero, suc, ◌+◌, ◌-◌, ◌*◌, ◌≤◌, ◌<◌}
-use mathlib.Core.Path.{◌≡◌, refl, ap, sym, ◌∙◌}
+use mathlib.Core.Path.{◌≡◌, refl, ap, sym, subst, ◌∙◌}
 use mathlib.Core.Bool.{Bool, true, false, cond, true≢false}
 use mathlib.Core.List.{List, []}
+use Rattle.std.specs.Prelude.{Option, Some, None, Result, Ok, Err}
 use native.Mathlib.Omega.{arith}
 use borrow.Author.Tests.{eq-eqb, ne_eqb, lt-ltb, le-ltb}
 use lib.ListN.{length, get_or, take, drop, length-drop, length-take, drop_of_length-le}
-use lib.Seq.{take-nil, take-take, get_or-take}
+use lib.Seq.{take-nil, take-take, drop-drop, get_or-take, get_or-drop}
 use Rattle.rules.specs.Numbers.{numbers_of}
 use Rattle.rules.specs.Book.{Walk, ends, broken, short, Kind, kinds, kind_at, variables, key_of, key_for, same_key}
 use Rattle.rules.specs.Book.{size_of}
@@ -15,16 +16,17 @@ use Rattle.rules.specs.Book.{shift, section, sections, entry, always}
 use Rattle.rules.proofs.Bounded.{by-le}
 use Rattle.rules.proofs.Numbers.{numbers-drop, numbers-take}
 use Rattle.rules.proofs.SectionKinds.{always-kind}
-use Rattle.rules.proofs.Walks.{shift-zero, entry-ends, place, place-ends, place-broken, place-section}
+use Rattle.rules.proofs.Walks.{shift-zero, shift-shift, entry-ends, place, place-ends, place-broken, place-section}
 use Rattle.rules.proofs.Steps.{same-short, section-is, entries-done, entries-broken, entries-short, entries-next}
 use Rattle.rules.proofs.Steps.{sections-done, sections-broken, sections-short, sections-next}
-use Rattle.entry.specs.Paper.{key_paper}
+use Rattle.entry.specs.Paper.{key_paper, walk_paper}
 use Rattle.entry.specs.declared.Key.{Key}
 use Rattle.entry.proofs.AnyKind.{by-kind}
 use Rattle.book.specs.Places.{or_else, under_from, section_place, onward, at_end, place_under, place_of, held_past}
 use Rattle.book.specs.Paper.{key_between, stretch_paper, seen_of, ReadTo, InSection, InBook, SectionsRead}
-use Rattle.book.specs.declared.Stretch.{Stretch}
-use Rattle.book.specs.declared.Stretch.TheVariants.{Ends, Broken, Short}
+use Rattle.book.specs.declared.Section.{Section}
+use Rattle.entry.specs.declared.Fault.{Fault}
+use Rattle.entry.specs.declared.Fault.TheVariants.{Broken, Short}
 
 -- the numbers of the part of a slice from one place up to another
 pub numbers-between : (b : List ℕ) (from to : ℕ)
@@ -41,97 +43,157 @@ module _ {w : Walk} {p : ℕ} (at : ℕ) (ws : List ℕ) (here : place w ≤ len
   pub broken-near : broken p ≡ w → at + p ≤ length ws
   broken-near q = omega (arith, place-broken w p q, length-drop at ws)
 
+abbrev pub Read : Type 0
+Read = Result Section Fault
+
+abbrev pub ended : ℕ → Option ℕ → Read
+ended end seen = Ok (record { end = end; seen = seen })
+
 -- what was read, made and taken apart
-module _ {w : Walk} {look : ℕ} where
-  pub read-ends : {p seen : ℕ} → ends p ≡ w → seen ≡ look → ReadTo w look (Ends p seen)
+module _ {w : Walk} {look : Option ℕ} where
+  pub read-ends : {p : ℕ} {seen : Option ℕ} → ends p ≡ w → seen ≡ look → ReadTo w look (ended p seen)
   read-ends q f = record { comes = q; seen = f ∙ ap (λ (x : Walk). at_end x (λ p. look)) q }
 
-  pub read-broken : {p : ℕ} → broken p ≡ w → ReadTo w look (Broken p)
+  pub read-broken : {p : ℕ} → broken p ≡ w → ReadTo w look (Err (Broken p))
   read-broken q = record { comes = q; seen = ap (λ (x : Walk). at_end x (λ p. look)) q }
 
-  pub read-short : short ≡ w → ReadTo w look Short
+  pub read-short : short ≡ w → ReadTo w look (Err Short)
   read-short q = record { comes = q; seen = ap (λ (x : Walk). at_end x (λ p. look)) q }
 
-  module _ {r : Stretch} (t : ReadTo w look r) where
-    pub ends-of : {p seen : ℕ} → r ≡ Ends p seen → (ends p ≡ w) × (seen ≡ look)
-    ends-of {p} {seen} e =
-        let q : ends p ≡ w = sym (ap stretch_paper e) ∙ t.comes in
+  module _ {r : Read} (t : ReadTo w look r) where
+    pub ends-of : {s : Section} → r ≡ Ok s → (ends s.end ≡ w) × (s.seen ≡ look)
+    ends-of {s} e =
+        let q : ends s.end ≡ w = sym (ap stretch_paper e) ∙ t.comes in
         (q, sym (ap seen_of e) ∙ t.seen ∙ ap (λ (x : Walk). at_end x (λ p. look)) (sym q))
 
-    pub broken-of : {p : ℕ} → r ≡ Broken p → broken p ≡ w
+    pub broken-of : {p : ℕ} → r ≡ Err (Broken p) → broken p ≡ w
     broken-of e = sym (ap stretch_paper e) ∙ t.comes
 
-    pub short-of : r ≡ Short → short ≡ w
+    pub short-of : r ≡ Err Short → short ≡ w
     short-of e = sym (ap stretch_paper e) ∙ t.comes
 
+-- a walk that is seen from so many numbers before
+pub ends-shifted : (at : ℕ) {end : ℕ} (w : Walk) → ends end ≡ shift at w
+    → (size : ℕ) × (ends size ≡ w) × (end ≡ at + size)
+unfolding shift
+ends-shifted at (ends p) e = (p, refl, cc)
+ends-shifted at (broken p) e = cc
+ends-shifted at short e = cc
+
+pub broken-shifted : (at : ℕ) {p : ℕ} (w : Walk) → broken p ≡ shift at w → (q : ℕ) × (broken q ≡ w) × (p ≡ at + q)
+unfolding shift
+broken-shifted at (ends p) e = cc
+broken-shifted at (broken p) e = (p, refl, cc)
+broken-shifted at short e = cc
+
+pub short-shifted : (at : ℕ) (w : Walk) → short ≡ shift at w → short ≡ w
+unfolding shift
+short-shifted at (ends p) e = cc
+short-shifted at (broken p) e = cc
+short-shifted at short e = refl
+
 -- a place seen, or the one here, or else a later one
-or-later : (t : Bool) (seen at later : ℕ) → 1 ≤ at
-    → or_else seen (cond t at later) ≡ or_else (or_else seen (cond t at 0)) later
-or-later true zero at later h = rw (ne_eqb at 0 (λ e. omega arith))
-or-later false zero at later h = refl
-or-later t (suc s) at later h = let z = ne_eqb (suc s) 0 (λ e. omega arith) in rw z (rw z refl)
+or-later : (t : Bool) (seen : Option ℕ) (at : ℕ) (later : Option ℕ)
+    → or_else seen (cond t (Some at) later) ≡ or_else (or_else seen (cond t (Some at) None)) later
+or-later true None at later = refl
+or-later false None at later = refl
+or-later t (Some p) at later = refl
+
+-- the first entry under a key of those from a place on, seen from so many numbers before
+under-onward : (k : Kind) (key ws : List ℕ) (start n at : ℕ)
+    → onward start (under_from k key n at (drop start ws)) ≡ under_from k key n (start + at) ws
+unfolding under_from
+under-onward k key ws start zero at = refl
+under-onward k key ws start (suc n) at =
+    let d : drop at (drop start ws) ≡ drop (start + at) ws = drop-drop at start ws in
+    let size = size_of k (drop (start + at) ws) in
+    let l : start + (at + size) ≡ start + at + size = omega arith in
+    rw d
+    (go (same_key (key_of k (drop (start + at) ws)) key) _
+    (under-onward k key ws start n (at + size) ∙ ap (λ (m : ℕ). under_from k key n m ws) l))
+  where
+    go : (t : Bool) (a : Option ℕ) {b : Option ℕ} → onward start a ≡ b
+        → onward start (cond t (Some at) a) ≡ cond t (Some (start + at)) b
+    go true a e = refl
+    go false a e = e
 
 -- the loop over the entries of a section
-module _ {k : Kind} {key ws : List ℕ} where
-  pub section-opens : {n : ℕ} → 0 < length ws → n ≡ get_or ws 0 0 → InSection k key ws n 1 1 0 0
+module _ {k : Kind} {key ws : List ℕ} {start : ℕ} where
+  pub section-opens : {n : ℕ} → start < length ws → n ≡ get_or ws start 0
+      → InSection k key ws start n (start + 1) (start + 1) None 0
   section-opens {n} h q =
-      let z : n - 0 ≡ get_or ws 0 0 = omega arith in
+      let z : start + 0 ≡ start = omega arith in
+      let count : get_or (drop start ws) 0 0 ≡ n - 0 =
+      get_or-drop start ws 0 0 ∙ ap (λ (i : ℕ). get_or ws i 0) z ∙ sym q ∙ (omega arith) in
+      let none : start + 1 - (start + 1) ≡ 0 = omega arith in
       record {
-        counted = omega arith;
-        first = omega arith;
         after = omega arith;
         within = omega arith;
-        reads = section-is k ws h ∙ rw (z, take-nil k.key);
-        looks = rw z;
+        reads =
+            ap (shift start) (section-is k (drop start ws) (omega (arith, length-drop start ws)))
+            ∙ (shift-shift start 1 _)
+            ∙ rw (count, drop-drop 1 start ws, none, take-nil k.key);
+        looks = under-onward k key ws start (get_or (drop start ws) 0 0) 1 ∙ rw count;
       }
 
-  module _ {n prev at seen i : ℕ} (s : InSection k key ws n prev at seen i) where
+  module _ {n prev at : ℕ} {seen : Option ℕ} {i : ℕ} (s : InSection k key ws start n prev at seen i) where
     abbrev here : Walk
     here = entry k (key_between k prev at ws) (drop at ws)
 
-    pub section-next : {size now : ℕ} → ((x : ℕ) → k.key < k.size x) → i < n → ends size ≡ here
-        → now ≡ or_else seen (cond (same_key (key_of k (drop at ws)) key) at 0)
-        → InSection k key ws n at (at + size) now (i + 1)
+    pub section-next : {end : ℕ} {now : Option ℕ} → ((x : ℕ) → k.key < k.size x) → i < n → ends end ≡ shift at here
+        → now ≡ or_else seen (cond (same_key (key_of k (drop at ws)) key) (Some at) None)
+        → InSection k key ws start n at end now (i + 1)
     unfolding under_from
-    section-next {size} {now} deep h q f =
+    section-next {end} {now} deep h t f =
+        let r = ends-shifted at here t in
+        let size : ℕ = r.0 in
+        let q : ends size ≡ here = r.1 in
         let e = entry-ends k (key_between k prev at ws) (drop at ws) size (sym q) in
         let d = deep (get_or (drop at ws) k.key 0) in
         let one : n - i ≡ suc (n - (i + 1)) = omega arith in
         let same : at + size - at ≡ size = omega arith in
         let between : key_between k at (at + size) ws ≡ key_of k (drop at ws) =
         rw same (take-take k.key size (drop at ws) (omega (arith, e, d))) in
+        rw r.2
         record {
-          counted = omega arith;
-          first = omega (arith, s.first);
           after = omega arith;
           within = omega (arith, e, s.within, length-drop at ws);
           reads = s.reads ∙ rw between (entries-next k n i at (key_between k prev at ws) ws size h q);
           looks =
               s.looks
               ∙ (rw (one, ← e.1)
-              (or-later (same_key (key_of k (drop at ws)) key) seen at (under_from k key (n - (i + 1)) (at + size) ws)
-              s.first))
-              ∙ ap (λ (x : ℕ). or_else x (under_from k key (n - (i + 1)) (at + size) ws)) (sym f);
+              (or-later (same_key (key_of k (drop at ws)) key) seen at (under_from k key (n - (i + 1)) (at + size) ws)))
+              ∙ ap (λ (x : Option ℕ). or_else x (under_from k key (n - (i + 1)) (at + size) ws)) (sym f);
         }
 
-    pub section-broken : {p : ℕ} → i < n → broken p ≡ here
-        → ReadTo (section k ws) (section_place k key ws) (Broken (at + p))
-    section-broken {p} h q =
-        read-broken (sym (s.reads ∙ entries-broken k n i at (key_between k prev at ws) ws p h q))
+    pub section-fault : {e : Fault} → i < n → walk_paper (Err e) ≡ shift at here
+        → ReadTo (shift start (section k (drop start ws))) (onward start (section_place k key (drop start ws))) (Err e)
+    section-fault {e = Broken p} h t =
+        let r = broken-shifted at here t in
+        read-broken (ap broken r.2 ∙ sym (s.reads ∙ entries-broken k n i at (key_between k prev at ws) ws r.0 h r.1))
+    section-fault {e = Short} h t =
+        read-short (sym (s.reads ∙ entries-short k n i at (key_between k prev at ws) ws h (short-shifted at here t)))
 
-    pub section-shorts : i < n → short ≡ here → ReadTo (section k ws) (section_place k key ws) Short
-    section-shorts h q = read-short (sym (s.reads ∙ entries-short k n i at (key_between k prev at ws) ws h q))
-
-    pub section-done : n ≤ i → ReadTo (section k ws) (section_place k key ws) (Ends at seen)
+    pub section-done : n ≤ i
+        → ReadTo (shift start (section k (drop start ws))) (onward start (section_place k key (drop start ws)))
+        (ended at seen)
     unfolding under_from
     section-done h =
         let z : n - i ≡ 0 = omega arith in
         read-ends (sym (s.reads ∙ entries-done k n i at (key_between k prev at ws) ws h))
         (sym (s.looks ∙ rw z (or-none seen)))
       where
-        or-none : (x : ℕ) → or_else x 0 ≡ x
-        or-none zero = refl
-        or-none (suc x) = rw (ne_eqb (suc x) 0 (λ e. omega arith))
+        or-none : (x : Option ℕ) → or_else x None ≡ x
+        or-none None = refl
+        or-none (Some x) = refl
+
+-- a place, if any, that is at most a number
+abbrev pub Near : ℕ → Option ℕ → Type 0
+Near n None = Unit {0}
+Near n (Some p) = p ≤ n
+
+pub near-of : {n p : ℕ} {o : Option ℕ} → Near n o → o ≡ Some p → p ≤ n
+near-of {n} {p} h e = subst (Near n) e h
 
 -- an entry under a key stands within the numbers
 module _ (k : Kind) (key ws : List ℕ) (some : 0 < length key) where
@@ -141,16 +203,16 @@ module _ (k : Kind) (key ws : List ℕ) (some : 0 < length key) where
       past : length ws < at → same_key (key_of k (drop at ws)) key ≡ false
       past l = rw (drop_of_length-le ws {i = at} (omega arith), take-nil k.key) (same-short [] key some)
 
-  under-near : (n at : ℕ) → under_from k key n at ws ≤ length ws
+  under-near : (n at : ℕ) → Near (length ws) (under_from k key n at ws)
   unfolding under_from
-  under-near zero at = omega arith
+  under-near zero at = tt
   under-near (suc n) at =
-      go (same_key (key_of k (drop at ws)) key) refl (under-near n (at + size_of k (drop at ws)))
+      go (same_key (key_of k (drop at ws)) key) refl _ (under-near n (at + size_of k (drop at ws)))
     where
-      go : (t : Bool) → same_key (key_of k (drop at ws)) key ≡ t → {later : ℕ} → later ≤ length ws
-          → cond t at later ≤ length ws
-      go true e l = here-near at e
-      go false e l = l
+      go : (t : Bool) → same_key (key_of k (drop at ws)) key ≡ t → (later : Option ℕ) → Near (length ws) later
+          → Near (length ws) (cond t (Some at) later)
+      go true e later l = here-near at e
+      go false e later l = l
 
 -- in the section of a kind
 module _ (kind severity letter column : ℕ) where
@@ -160,7 +222,7 @@ module _ (kind severity letter column : ℕ) where
       (λ n l. omega arith) kind
 
   pub in-near : (ws : List ℕ)
-      → section_place (kind_at kind) (key_for (kind_at kind) severity letter column) ws ≤ length ws
+      → Near (length ws) (section_place (kind_at kind) (key_for (kind_at kind) severity letter column) ws)
   in-near ws =
       under-near (kind_at kind) (key_for (kind_at kind) severity letter column) ws key-some (get_or ws 0 0) 1
 
@@ -171,13 +233,13 @@ module _ (j : ℕ) (key : Kind → List ℕ) (ws : List ℕ) where
   unfolding place_under
   place-at p h q = rw (lt-ltb j 5 h, ← q)
 
-  pub place-none : length kinds ≤ j → place_under j key ws ≡ 0
+  pub place-none : length kinds ≤ j → place_under j key ws ≡ None
   unfolding place_under
   place-none h = rw (le-ltb j 5 h)
 
 -- the four sections, one after the other
 module _ {asked : ℕ} {key : Key} {ws : List ℕ} where
-  pub book-opens : InBook asked key ws 0 0 0
+  pub book-opens : InBook asked key ws 0 0 None
   book-opens =
       record {
         counted = omega arith;
@@ -188,7 +250,7 @@ module _ {asked : ℕ} {key : Key} {ws : List ℕ} where
         behind = λ h. absurd (omega arith);
       }
 
-  module _ {kind at held : ℕ} (b : InBook asked key ws kind at held) where
+  module _ {kind at : ℕ} {held : Option ℕ} (b : InBook asked key ws kind at held) where
     abbrev part : Walk
     part = section (kind_at kind) (drop at ws)
 
@@ -218,7 +280,7 @@ module _ {asked : ℕ} {key : Key} {ws : List ℕ} where
     part-is : {w : Walk} → kind < length always → w ≡ part → w ≡ section (get_or always kind variables) (drop at ws)
     part-is h q = rw (its-kind h) q
 
-    pub book-next : {size seen now : ℕ} → kind < length always → ends size ≡ part
+    pub book-next : {size : ℕ} {seen now : Option ℕ} → kind < length always → ends size ≡ part
         → seen ≡ section_place (kind_at kind) (key_paper (kind_at kind) key) (drop at ws)
         → now ≡ held_past kind asked held at seen → InBook asked key ws (kind + 1) (at + size) now
     book-next {size} {seen} h q f g =
@@ -235,13 +297,14 @@ module _ {asked : ℕ} {key : Key} {ws : List ℕ} where
               (λ m. g ∙ rw (ne_eqb kind asked (λ e. omega arith)) (b.behind m));
         }
 
-    pub book-broken : {p : ℕ} → kind < length always → broken p ≡ part → SectionsRead asked key ws (Broken (at + p))
+    pub book-broken : {p : ℕ} → kind < length always → broken p ≡ part
+        → SectionsRead asked key ws (Err (Broken (at + p)))
     book-broken {p} h q = read-broken (sym (b.reads ∙ sections-broken always variables kind at ws p h (part-is h q)))
 
-    pub book-shorts : kind < length always → short ≡ part → SectionsRead asked key ws Short
+    pub book-shorts : kind < length always → short ≡ part → SectionsRead asked key ws (Err Short)
     book-shorts h q = read-short (sym (b.reads ∙ sections-short always variables kind at ws h (part-is h q)))
 
-    pub book-done : length always ≤ kind → SectionsRead asked key ws (Ends at held)
+    pub book-done : length always ≤ kind → SectionsRead asked key ws (ended at held)
     book-done h =
         read-ends (sym (b.reads ∙ sections-done always variables kind at ws h))
         (by-le (length always) asked (λ m. b.none (omega (arith, b.counted)) ∙ sym (rw (le-ltb asked 4 m)))

@@ -5,8 +5,9 @@ use mathlib.Core.Path.{◌≡◌, refl, ap, sym, ◌∙◌}
 use mathlib.Core.Bool.{Bool, true, false, cond}
 use mathlib.Core.List.{List}
 use native.Mathlib.Omega.{arith}
-use borrow.Author.Tests.{ne_eqb, lt-ltb, le-leb}
-use lib.Dec.{eqb}
+use borrow.Author.Tests.{lt-ltb, le-leb}
+use Rattle.std.specs.Prelude.{Option, Some, None}
+use Rattle.rules.proofs.Walks.{place, place-sections}
 use lib.ListN.{length, get_or, take, drop, length-drop}
 use lib.Seq.{drop-drop}
 use Rattle.rules.specs.Refusals.{Answer, refused, given, and_then}
@@ -22,44 +23,40 @@ use Rattle.rules.proofs.LookUp.{found-held}
 use Rattle.rules.proofs.HeldPlans.{in-range}
 use Rattle.entry.specs.Paper.{staged_read}
 use Rattle.book.specs.Places.{under_from, section_place, onward, at_end, place_under, from_place, place_held}
-use Rattle.book.specs.Paper.{whole_paper}
-use Rattle.book.specs.declared.Whole.{Whole}
-use Rattle.book.proofs.Loops.{in-near}
+use Rattle.book.proofs.Loops.{Near, near-of, in-near}
 
--- what the book's answer is, by what one pass over it found
-pub by-pass : {A : Type 0} (f : ℕ → Answer A) (book : List ℕ) (p : ℕ) {r w : Whole} → r ≡ w
-    → whole_paper r ≡ on_sound (check_book book) (given p)
-    → and_then (whole_paper w) f ≡ on_sound (check_book book) (f p)
-by-pass f book p e t =
-    ap (λ (x : Whole). and_then (whole_paper x) f) (sym e) ∙ ap (λ (a : Answer ℕ). and_then a f) t
-    ∙ go (check_book book)
+-- what goes on from what one pass over the book found
+pub by-pass : {A B : Type 0} (f : A → Answer B) (book : List ℕ) (p : A) {r : Answer A}
+    → r ≡ on_sound (check_book book) (given p) → and_then r f ≡ on_sound (check_book book) (f p)
+by-pass f book p t = ap (λ (a : Answer _). and_then a f) t ∙ go (check_book book)
   where
     go : (c : Checked) → and_then (on_sound c (given p)) f ≡ on_sound c (f p)
     go sound = refl
     go (broken_at byte) = refl
 
--- the entry at a place; place 0 stands for none
-abbrev found_at : Kind → ℕ → List ℕ → Found
-found_at k p ws = cond (eqb p 0) nothing (found (entry_of k (drop p ws)))
+-- the entry at a place, if any
+abbrev found_at : Kind → Option ℕ → List ℕ → Found
+found_at k None ws = nothing
+found_at k (Some p) ws = found (entry_of k (drop p ws))
 
-seek-place : (k : Kind) (key ws : List ℕ) (n at : ℕ) → 1 ≤ at
+seek-place : (k : Kind) (key ws : List ℕ) (n at : ℕ)
     → seek k key n (drop at ws) ≡ found_at k (under_from k key n at ws) ws
 unfolding seek under_from
-seek-place k key ws zero at h = refl
-seek-place k key ws (suc n) at h =
-    go (same_key (key_of k (drop at ws)) key) _ (seek-place k key ws n (at + size_of k (drop at ws)) (omega arith))
+seek-place k key ws zero at = refl
+seek-place k key ws (suc n) at =
+    go (same_key (key_of k (drop at ws)) key) _ (seek-place k key ws n (at + size_of k (drop at ws)))
   where
-    go : (t : Bool) (later : ℕ) → seek k key n (drop (at + size_of k (drop at ws)) ws) ≡ found_at k later ws
+    go : (t : Bool) (later : Option ℕ) → seek k key n (drop (at + size_of k (drop at ws)) ws) ≡ found_at k later ws
         → cond t (found (entry_of k (drop at ws))) (seek k key n (drop (size_of k (drop at ws)) (drop at ws)))
-        ≡ found_at k (cond t at later) ws
-    go true later ih = rw (ne_eqb at 0 (λ e. omega arith))
+        ≡ found_at k (cond t (Some at) later) ws
+    go true later ih = refl
     go false later ih = ap (seek k key n) (drop-drop (size_of k (drop at ws)) at ws) ∙ ih
 
 -- a place in a section that starts at a place of the book
-found-onward : (k : Kind) (at seen : ℕ) (ws : List ℕ) → found_at k (onward at seen) ws ≡ found_at k seen (drop at ws)
-found-onward k at zero ws = refl
-found-onward k at (suc s) ws =
-    rw (ne_eqb (suc s) 0 (omega arith), ne_eqb (at + suc s) 0 (omega arith), drop-drop (suc s) at ws)
+found-onward : (k : Kind) (at : ℕ) (seen : Option ℕ) (ws : List ℕ)
+    → found_at k (onward at seen) ws ≡ found_at k seen (drop at ws)
+found-onward k at None ws = refl
+found-onward k at (Some s) ws = rw (drop-drop s at ws)
 
 module _ (j severity letter column : ℕ) (book : List ℕ) (h : j < length kinds) where
   abbrev k : Kind
@@ -71,7 +68,7 @@ module _ (j severity letter column : ℕ) (book : List ℕ) (h : j < length kind
   abbrev key : List ℕ
   key = key_for k severity letter column
 
-  abbrev p : ℕ
+  abbrev p : Option ℕ
   p = place_under j (λ k. key_for k severity letter column) ws
 
   look-up : look_up j severity letter column ws ≡ found_at k p ws
@@ -82,23 +79,25 @@ module _ (j severity letter column : ℕ) (book : List ℕ) (h : j < length kind
           → from_end w (λ p. seek_in k key (drop p ws))
           ≡ found_at k (at_end w (λ p. onward p (section_place k key (drop p ws)))) ws
       go (ends p) =
-          seek-place k key (drop p ws) (get_or (drop p ws) 0 0) 1 (omega arith)
+          seek-place k key (drop p ws) (get_or (drop p ws) 0 0) 1
           ∙ sym (found-onward k p (section_place k key (drop p ws)) ws)
       go (broken p) = refl
       go short = refl
 
-  under-near : p ≤ length ws
-  unfolding place_under
-  under-near = rw (lt-ltb j 5 h) (go (sections (take j kinds) ws))
+  under-near : Near (length ws) p
+  unfolding place_under place
+  under-near = rw (lt-ltb j 5 h) (go (sections (take j kinds) ws) (place-sections (take j kinds) ws))
     where
-      onward-near : (p seen : ℕ) → seen ≤ length (drop p ws) → onward p seen ≤ length ws
-      onward-near p zero l = omega arith
-      onward-near p (suc s) l = rw (ne_eqb (suc s) 0 (omega arith)) (omega (arith, length-drop p ws))
+      onward-near : (p : ℕ) (seen : Option ℕ) → p ≤ length ws → Near (length (drop p ws)) seen
+          → Near (length ws) (onward p seen)
+      onward-near p None l h = tt
+      onward-near p (Some s) l h = omega (arith, length-drop p ws)
 
-      go : (w : Walk) → at_end w (λ p. onward p (section_place k key (drop p ws))) ≤ length ws
-      go (ends p) = onward-near p _ (in-near j severity letter column (drop p ws))
-      go (broken p) = omega arith
-      go short = omega arith
+      go : (w : Walk) → place w ≤ length ws
+          → Near (length ws) (at_end w (λ p. onward p (section_place k key (drop p ws))))
+      go (ends p) l = onward-near p _ l (in-near j severity letter column (drop p ws))
+      go (broken p) l = tt
+      go short l = tt
 
   -- the answer of a plan that is made of the entry alone
   pub on-held : {A : Type 0} (plan : List ℕ → Answer A)
@@ -107,11 +106,11 @@ module _ (j severity letter column : ℕ) (book : List ℕ) (h : j < length kind
   unfolding place_held
   on-held plan = rw look-up (go (check_book book) p)
     where
-      go : (c : Checked) (p : ℕ)
+      go : (c : Checked) (p : Option ℕ)
           → and_then (on_sound c (from_place p)) (λ p. plan (entry_of k (drop p ws)))
           ≡ on_sound c (from_entry (found_at k p ws) plan)
-      go sound zero = refl
-      go sound (suc p) = rw (ne_eqb (suc p) 0 (omega arith))
+      go sound None = refl
+      go sound (Some p) = refl
       go (broken_at byte) p = refl
 
   pub on-refused : {n q : ℕ} → place_held j severity letter column book ≡ refused n q
@@ -127,25 +126,24 @@ module _ (j severity letter column : ℕ) (book : List ℕ) (h : j < length kind
         ≡ on_sound (check_book book) (from_entry (look_up j severity letter column ws) plan)
     on-place plan = sym (ap (λ (a : Answer ℕ). and_then a (λ p. plan (entry_of k (drop p ws)))) e) ∙ on-held plan
 
-    given-by : (check_book book ≡ sound) × ((p ≡ 0 → ⊥) × (p ≡ at))
+    given-by : (check_book book ≡ sound) × (p ≡ Some at)
     unfolding place_held
     given-by = go (check_book book) p refl e
       where
-        go : (c : Checked) (p : ℕ) {b : Checked} → b ≡ c → on_sound c (from_place p) ≡ given at
-            → (b ≡ sound) × ((p ≡ 0 → ⊥) × (p ≡ at))
-        go sound zero s q = absurd (refused-given q)
-        go sound (suc p) s q =
-            let z = ne_eqb (suc p) 0 (omega arith) in (s, (omega arith, given-one (rw z at q)))
+        go : (c : Checked) (p : Option ℕ) {b : Checked} → b ≡ c → on_sound c (from_place p) ≡ given at
+            → (b ≡ sound) × (p ≡ Some at)
+        go sound None s q = absurd (refused-given q)
+        go sound (Some p) s q = (s, ap (λ (n : ℕ). Some n) (given-one q))
         go (broken_at byte) p s q = absurd (refused-given q)
 
     pub place-sound : check_book book ≡ sound
     place-sound = given-by.0
 
     pub place-near : at ≤ length ws
-    place-near = omega (arith, under-near, given-by.1.1)
+    place-near = near-of under-near given-by.1
 
     pub place-found : look_up j severity letter column ws ≡ found (entry_of k (drop at ws))
-    place-found = look-up ∙ rw (given-by.1.1, ne_eqb at 0 (λ z. given-by.1.0 (given-by.1.1 ∙ z)))
+    place-found = look-up ∙ rw given-by.1
 
 -- a staged plan that is found has few stages
 pub few-stages : (severity letter column : ℕ) (book : List ℕ) (at : ℕ)

@@ -1,4 +1,3 @@
-mod Beside
-pub mod OneResult
 mod Sizes
+pub mod OneResult
 pub mod Supplies

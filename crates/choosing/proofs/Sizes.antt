@@ -1,41 +1,43 @@
--- The items of a staged plan's stages, stage by stage; and that a plan read from an entry has few.
+-- The items of a staged plan's stages; and that a plan read from an entry has few.
 -- Assumes nothing.
-use Prim.Native.Nat.{ℕ, suc, ◌+◌, ◌-◌, ◌≤◌, ◌<◌}
-use mathlib.Core.Path.{◌≡◌, refl}
+use Prim.Native.Nat.{ℕ, zero, suc, ◌+◌, ◌≤◌}
+use mathlib.Core.Path.{◌≡◌, refl, sym, ap, ◌∙◌}
 use mathlib.Core.Bool.{Bool, true, false, cond}
-use mathlib.Core.List.{List}
-use native.Mathlib.Numerals.{add-one}
+use mathlib.Core.List.{List, [], ◌∷◌}
 use native.Mathlib.Omega.{arith}
 use borrow.Author.Tests.{leb-true}
 use lib.Dec.{leb}
-use lib.ListN.{get_or}
-use Rattle.rules.specs.Staged.{StagedPlan, stages_from, stages_of, total_size}
+use lib.ListN.{take, drop, get_or}
+use Rattle.std.specs.Prelude.{map, sum_by}
+use Rattle.std.proofs.Math.Seq.{take-nil}
+use Rattle.std.proofs.lemmas.List.Sums.{sum_by-cons}
+use Rattle.rules.specs.Staged.{stages_from, stages_of, total_size}
 use Rattle.rules.specs.Book.{staged_of}
-use Rattle.entry.specs.Paper.{no_stages, staged_read}
+use Rattle.entry.specs.declared.Stage.{Stage}
+use Rattle.entry.specs.declared.StagedPlan.{StagedPlan}
+use Rattle.entry.specs.Paper.{staged_paper, no_stages, staged_read}
 
--- the items of the stages before i, and those still to come
-pub SizedTo : StagedPlan → ℕ → ℕ → Type 0
-SizedTo p i total = total + total_size (stages_from (p.stages - i) i p) ≡ total_size (stages_of p)
+abbrev size : Stage → ℕ
+size s = s.size
 
-module _ (p : StagedPlan) where
-  pub sized-start : SizedTo p 0 0
-  unfolding SizedTo
-  sized-start =
-      let k : p.stages - 0 ≡ p.stages = omega arith in
-      rw k (omega arith)
+-- one stage more, which has no items past the last
+one-more : (k i : ℕ) (ss : List Stage)
+    → get_or (map size ss) i 0 + sum_by size (take k (drop (suc i) ss)) ≡ sum_by size (take (suc k) (drop i ss))
+one-more k zero [] = rw (take-nil {A = Stage} k)
+one-more k (suc i) [] = rw (take-nil {A = Stage} k)
+one-more k zero (s ∷ ss) = sym (sum_by-cons size s (take k ss))
+one-more k (suc i) (s ∷ ss) = one-more k i ss
 
-  pub sized-next : (i total x : ℕ) → i < p.stages → x ≡ get_or p.sizes i 0 → SizedTo p i total
-      → SizedTo p (i + 1) (total + x)
-  unfolding SizedTo stages_from total_size
-  sized-next i total x h e s =
-      let k : p.stages - i ≡ suc (p.stages - suc i) = omega arith in
-      let s' = rw k at s in rw (add-one i) (omega arith)
+from-stage : (k i : ℕ) (p : StagedPlan)
+    → sum_by size (take k (drop i p.stages)) ≡ total_size (stages_from k i (staged_paper p))
+unfolding total_size stages_from
+from-stage zero i p = refl
+from-stage (suc k) i p =
+    sym (one-more k i p.stages)
+    ∙ ap (λ (n : ℕ). get_or (map size p.stages) i 0 + n) (from-stage k (suc i) p)
 
-  pub sized-all : (i total : ℕ) → p.stages ≤ i → SizedTo p i total → total ≡ total_size (stages_of p)
-  unfolding SizedTo stages_from total_size
-  sized-all i total h s =
-      let k : p.stages - i ≡ 0 = omega arith in
-      let s' = rw k at s in omega arith
+pub total-is : (p : StagedPlan) → sum_by size (take p.count p.stages) ≡ total_size (stages_of (staged_paper p))
+total-is p = from-stage p.count 0 p
 
 -- a staged entry read by itself has at most seven stages
 pub read-few : (e : List ℕ) → (staged_read e).stages ≤ 7

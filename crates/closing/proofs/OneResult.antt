@@ -1,70 +1,56 @@
--- Each promise of a public function admits one result: document 01's answer, with the plan beside it, tells the code's.
+-- Each promise of a public function admits one result: document 01's answer tells the code's, where the plan's own
+-- paper tells the plan. That of an event stands in severity.
 -- Assumes nothing.
-use mathlib.Core.Path.{◌≡◌, refl, ap}
-use Rattle.rules.specs.Refusals.{Answer, refused, given}
-use Rattle.rules.specs.Verdict.{Verdict, Judged}
-use Rattle.rules.specs.Entries.{Closed}
-use Rattle.rules.proofs.Answers.{read-back}
-use Rattle.plans.specs.declared.VerdictAnswer.{VerdictAnswer}
-use Rattle.plans.specs.declared.VerdictAnswer.TheVariants as judges
-use Rattle.plans.specs.Paper.{plan_paper, verdict_on}
-use Rattle.plans.proofs.OneResult.{plan_back, verdict_back}
+use mathlib.Core.Path.{◌≡◌, refl, ap, ◌∙◌}
+use Rattle.std.specs.Prelude.{Result}
+use Rattle.refusals.specs.declared.Refusal.{Refusal}
+use Rattle.refusals.specs.Paper.{answer_by, itself}
+use Rattle.refusals.proofs.OneResult as results
+use Rattle.rules.specs.Entries as rules
+use Rattle.plans.specs.declared.SinglePlan.{SinglePlan}
+use Rattle.plans.specs.declared.Judged.{Judged}
+use Rattle.plans.specs.Paper.{plan_paper, judged_by}
+use Rattle.plans.proofs.OneResult.{plan_back, judged_back, judged-back}
 use Rattle.severity.specs.declared.Event.{Event}
 use Rattle.severity.proofs.OneResult.{event_back, event-back}
 use Rattle.supply.proofs.OneResult.{supply_back}
-use Rattle.closing.specs.declared.ClosedAnswer.{ClosedAnswer}
-use Rattle.closing.specs.declared.ClosedAnswer.TheVariants as closes
-use Rattle.closing.specs.declared.SingleJudged.{SingleJudged}
-use Rattle.closing.specs.declared.SingleClosed.{SingleClosed}
-use Rattle.closing.specs.Paper.{closed_on, judged_beside, closed_beside}
+use Rattle.closing.specs.declared.Closed.{Closed}
+use Rattle.closing.specs.Paper.{closed_by}
 
--- an answer is told with any plan beside it
-abbrev pub judged_back : {P : Type 0} → Answer (Judged P Verdict) → VerdictAnswer
-judged_back (refused n p) = judges.Refused n p
-judged_back (given j) = judges.Given (verdict_back j.verdict)
+module _ {P A : Type 0} (plan_of : P → A) (back : A → P) (same : (p : P) → back (plan_of p) ≡ p) where
+  abbrev closed_back : rules.Closed A → Closed P
+  closed_back c =
+      record {
+        judged = judged_back plan_of back same c.judged;
+        event = event_back c.event;
+        supply_after = supply_back c.supply_after;
+      }
 
-abbrev pub closed_back : {P : Type 0} → Answer (Closed P) → ClosedAnswer
-closed_back (refused n p) = closes.Refused n p
-closed_back (given c) =
-    closes.Given
-    (record {
-      verdict = verdict_back c.judged.verdict;
-      event = event_back c.event;
-      supply_after = supply_back c.supply_after;
-    })
-
-module _ {P : Type 0} (plan : P) where
-  pub judged-back : (a : VerdictAnswer) → judged_back (verdict_on a plan) ≡ a
-  judged-back (judges.Refused n p) = refl
-  judged-back (judges.Given v) = refl
-
-  pub closed-back : (a : ClosedAnswer) → closed_back (closed_on a plan) ≡ a
-  closed-back (closes.Refused n p) = refl
-  closed-back (closes.Given c) =
+  closed-back : (c : Closed P) → closed_back (closed_by plan_of c) ≡ c
+  closed-back c =
       ap
-      (λ (e : Event). closes.Given (record { verdict = c.verdict; event = e; supply_after = c.supply_after }))
-      (event-back c.event)
+      (λ (j : Judged P).
+      record {
+        judged = j;
+        event = event_back (closed_by plan_of c).event;
+        supply_after = c.supply_after;
+      })
+      (judged-back plan_of back same c.judged)
+      ∙ ap (λ (e : Event). record { judged = c.judged; event = e; supply_after = c.supply_after }) (event-back c.event)
 
-  -- of enter
-  pub answer-one : (a b : ClosedAnswer) → closed_on a plan ≡ closed_on b plan → a ≡ b
-  answer-one = read-back (λ (a : ClosedAnswer). closed_on a plan) closed_back closed-back
+  -- of every closing
+  pub closed-one : (a b : Result (Closed P) Refusal)
+      → answer_by (closed_by plan_of) a ≡ answer_by (closed_by plan_of) b → a ≡ b
+  closed-one = results.answer-one (closed_by plan_of) closed_back closed-back
 
--- of unjudged
-pub judged-one : (a b : SingleJudged) → judged_beside a ≡ judged_beside b → a ≡ b
-judged-one = read-back judged_beside (λ b. record { answer = judged_back b.answer; plan = plan_back b.plan }) back
-  where
-    back : (a : SingleJudged)
-        → record { answer = judged_back (judged_beside a).answer; plan = plan_back (judged_beside a).plan } ≡ a
-    back a =
-        ap (λ (x : VerdictAnswer). record { answer = x; plan = a.plan })
-        (judged-back (plan_paper a.plan) a.answer)
+-- of enter
+pub answer-one : {P : Type 0} (a b : Result (Closed P) Refusal)
+    → answer_by (closed_by itself) a ≡ answer_by (closed_by itself) b → a ≡ b
+answer-one a b e = closed-one itself itself (λ p. refl) a b e
 
--- of close_total, take_single and unclosed
-pub closed-one : (a b : SingleClosed) → closed_beside a ≡ closed_beside b → a ≡ b
-closed-one = read-back closed_beside (λ b. record { answer = closed_back b.answer; plan = plan_back b.plan }) back
-  where
-    back : (a : SingleClosed)
-        → record { answer = closed_back (closed_beside a).answer; plan = plan_back (closed_beside a).plan } ≡ a
-    back a =
-        ap (λ (x : ClosedAnswer). record { answer = x; plan = a.plan })
-        (closed-back (plan_paper a.plan) a.answer)
+-- of a single lot that was judged
+pub judged-one : (a b : Result (Judged SinglePlan) Refusal)
+    → answer_by (judged_by plan_paper) a ≡ answer_by (judged_by plan_paper) b → a ≡ b
+judged-one =
+    results.answer-one (judged_by plan_paper) (judged_back plan_paper plan_back (λ p. refl))
+    (judged-back plan_paper plan_back (λ p. refl))

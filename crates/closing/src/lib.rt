@@ -3,23 +3,21 @@
 // How a lot closes: how its verdict counts, the event that it stands for and the record after; and a lot that is closed
 // by its total, at a bench without a book.
 ghost use Rattle.std.specs.Prelude.{◌≡◌, ◌&&◌, ltb};
-ghost use Rattle.rules.specs.Refusals.{refused, and_then};
+ghost use Rattle.refusals.specs.Paper.{answer_by, reason_by, itself};
+ghost use Rattle.rules.specs.Refusals.{and_then};
 ghost use Rattle.rules.specs.Codes.{counts_items};
 ghost use Rattle.rules.specs.Severity.{counted, sampled, single_points, earns_three, staged_points};
 ghost use Rattle.rules.specs.Entries.{asked_on, event_for, single_counts, single_event, on_supply, closed_with};
-ghost use Rattle.rules.specs.Entries.{total_on};
-ghost use Rattle.rules.specs.Entries.{judge_total, close_total};
-ghost use Rattle.plans.specs.Paper.{asked_paper, plan_paper, verdict_paper, beside, zero_plan};
+ghost use Rattle.rules.specs.Entries.{total_on, judge_total, close_total};
+ghost use Rattle.plans.specs.Paper.{asked_paper, plan_paper, verdict_paper, judged_by};
 ghost use Rattle.severity.specs.Paper.{lot_paper, origin_paper, event_paper, record_paper};
 ghost use Rattle.supply.specs.Paper.{supply_paper};
-ghost use Rattle.closing.specs.Paper.{offered_paper, judged_on, staged_lot, entered, unplanned, closed_on};
-ghost use Rattle.closing.specs.Paper.{closed_paper, judged_beside, closed_beside, plan_judged, plan_closed};
+ghost use Rattle.closing.specs.Paper.{offered_paper, judged_on, staged_lot, entered, closed_by};
 
-use plans::{
-    Asked, ILLEGAL_ITEM, LAST_OF_ITEMS, Outcome, SinglePlan, UNKNOWN_FORM, Verdict, VerdictAnswer,
-};
+use plans::{Asked, Judged, LAST_OF_ITEMS, SinglePlan, Verdict};
+use refusals::{Reason, Refusal};
 use severity::{Event, Lot, Origin};
-use supply::{Moved, Supply};
+use supply::Supply;
 
 // A lot that is offered to be closed.
 #[derive(Clone, Copy)]
@@ -30,67 +28,46 @@ pub struct Offered {
     pub column: u32,
 }
 
-// How a closed lot was judged, the event that it stands for, and the record after.
+// How a closed lot was judged, on which plan, the event that it stands for, and the record after.
 #[derive(Clone, Copy)]
-pub struct Closed {
-    pub verdict: Verdict,
+pub struct Closed<P> {
+    pub judged: Judged<P>,
     pub event: Event,
     pub supply_after: Supply,
-}
-
-#[derive(Clone, Copy)]
-pub enum ClosedAnswer {
-    Refused(u8, usize),
-    Given(Closed),
-}
-
-// The verdict on a single plan, with the plan; beside a refusal its places are 0.
-#[derive(Clone, Copy)]
-pub struct SingleJudged {
-    pub answer: VerdictAnswer,
-    pub plan: SinglePlan,
-}
-
-// A lot closed on a single plan, likewise.
-#[derive(Clone, Copy)]
-pub struct SingleClosed {
-    pub answer: ClosedAnswer,
-    pub plan: SinglePlan,
 }
 
 // `tighter` is the Ac one column tighter at the letter that gives the size.
 fn single_points(ac: u16, tighter: u16, total: u64) -> Lot
     ensures { lot_paper result ≡ single_points ac tighter total }
 {
-    if 2 <= ac {
-        if total <= tighter as u64 {
-            return Lot::AddThree;
-        }
-        return Lot::ScoreZero;
+    if ac < 2 {
+        Lot::AddTwo
+    } else if total <= u64::from(tighter) {
+        Lot::AddThree
+    } else {
+        Lot::ScoreZero
     }
-    Lot::AddTwo
 }
 
 // "the first stage" of two; "For three or more, .. stage 1, 2 or 3".
 fn earns_three(stage: u8, stages: u8) -> bool
     ensures { result ≡ earns_three stage stages }
 {
-    if 3 <= stages {
-        if 1 <= stage {
-            return stage <= 3;
-        }
-        return false;
+    if stages < 3 {
+        stage == 1
+    } else {
+        matches!(stage, 1..=3)
     }
-    stage == 1
 }
 
 fn staged_points(stage: u8, stages: u8) -> Lot
     ensures { lot_paper result ≡ staged_points stage stages }
 {
     if earns_three(stage, stages) {
-        return Lot::AddThree;
+        Lot::AddThree
+    } else {
+        Lot::ScoreZero
     }
-    Lot::ScoreZero
 }
 
 // "Resubmitted lots are judged at the present severity and change nothing."
@@ -137,57 +114,33 @@ pub fn staged_event(old: Supply, lot: Offered, verdict: Verdict) -> Event
     )
 }
 
-// A lot that was judged enters its record as an event.
-pub fn enter(old: Supply, event: Event, verdict: Verdict) -> ClosedAnswer
-    ensures { closed_paper result ≡ on_supply (supply_paper old)
-        (entered (supply_paper old) (event_paper event) (unplanned (verdict_paper verdict))) }
+// A lot that was judged, on whatever plan, enters its record as an event.
+pub fn enter<P: Copy>(old: Supply, event: Event, judged: Judged<P>) -> Result<Closed<P>, Refusal>
+    ensures { answer_by (closed_by itself) result
+        ≡ on_supply (supply_paper old)
+        (entered (supply_paper old) (event_paper event) (judged_by itself judged)) }
 {
-    match supply::update(old, event) {
-        Moved::Refused(number, place) => ClosedAnswer::Refused(number, place),
-        Moved::Given(new) => ClosedAnswer::Given(Closed {
-            verdict,
-            event,
-            supply_after: new,
-        }),
-    }
-}
-
-pub fn unclosed(number: u8, place: usize) -> SingleClosed
-    ensures { closed_beside result ≡ beside zero_plan plan_closed (refused number place) }
-{
-    SingleClosed {
-        answer: ClosedAnswer::Refused(number, place),
-        plan: plans::no_plan(),
-    }
-}
-
-fn with_plan(plan: SinglePlan, answer: ClosedAnswer) -> SingleClosed
-    ensures { closed_beside result ≡ beside zero_plan plan_closed (closed_on answer (plan_paper plan)) }
-{
-    match answer {
-        ClosedAnswer::Refused(number, place) => unclosed(number, place),
-        ClosedAnswer::Given(closed) => SingleClosed {
-            answer: ClosedAnswer::Given(closed),
-            plan,
-        },
-    }
+    let supply_after = supply::update(old, event)?;
+    Ok(Closed {
+        judged,
+        event,
+        supply_after,
+    })
 }
 
 // A lot that was judged on a single plan is taken into its record.
-pub fn take_single(old: Supply, lot: Offered, judged: SingleJudged) -> SingleClosed
-    ensures { closed_beside result ≡ beside zero_plan plan_closed (and_then (judged_beside judged).answer
+pub fn take_single(
+    old: Supply,
+    lot: Offered,
+    judged: Result<Judged<SinglePlan>, Refusal>,
+) -> Result<Closed<SinglePlan>, Refusal>
+    ensures { answer_by (closed_by plan_paper) result ≡ and_then (answer_by (judged_by plan_paper) judged)
         (λ j. on_supply (supply_paper old) (closed_with (supply_paper old)
-        (single_event (record_paper old.switching) (offered_paper lot)) j))) }
+        (single_event (record_paper old.switching) (offered_paper lot)) j)) }
 {
-    let answer = judged.answer;
-    let plan = judged.plan;
-    match answer {
-        VerdictAnswer::Refused(number, place) => unclosed(number, place),
-        VerdictAnswer::Given(verdict) => {
-            let event = single_event(old, lot, Origin::Sampled, plan, verdict);
-            with_plan(plan, enter(old, event, verdict))
-        }
-    }
+    let judged = judged?;
+    let event = single_event(old, lot, Origin::Sampled, judged.plan, judged.verdict);
+    enter(old, event, judged)
 }
 
 // The lot as it is asked about, at the present severity.
@@ -195,19 +148,10 @@ pub fn asked_on(old: Supply, lot: Offered) -> Asked
     ensures { asked_paper result ≡ asked_on (record_paper old.switching) (offered_paper lot) }
 {
     Asked {
-        severity: old.switching.severity as u32,
+        severity: u32::from(old.switching.severity),
         size: lot.size,
         level: lot.level,
         column: lot.column,
-    }
-}
-
-pub fn unjudged(number: u8, place: usize) -> SingleJudged
-    ensures { judged_beside result ≡ beside zero_plan plan_judged (refused number place) }
-{
-    SingleJudged {
-        answer: VerdictAnswer::Refused(number, place),
-        plan: plans::no_plan(),
     }
 }
 
@@ -215,53 +159,36 @@ pub fn unjudged(number: u8, place: usize) -> SingleJudged
 fn exceeds_sample(column: u32, n: u16, total: u32) -> bool
     ensures { result ≡ (counts_items column && ltb n total) }
 {
-    if column <= LAST_OF_ITEMS {
-        return (n as u32) < total;
-    }
-    false
+    column <= LAST_OF_ITEMS && u32::from(n) < total
 }
 
 // A total on a single plan, in place of a sample.
-fn judge_on_plan(column: u32, total: u32, plan: SinglePlan) -> SingleJudged
-    ensures { judged_beside result ≡ beside zero_plan plan_judged (total_on column total (plan_paper plan)) }
+fn judge_on_plan(column: u32, total: u32, plan: SinglePlan) -> Result<Judged<SinglePlan>, Reason>
+    ensures { reason_by (judged_by plan_paper) result ≡ total_on column total (plan_paper plan) }
 {
     if exceeds_sample(column, plan.n, total) {
-        return unjudged(ILLEGAL_ITEM, 0);
+        return Err(Reason::IllegalItem);
     }
-    let verdict = Verdict {
-        accepted: total <= plan.ac as u32,
-        used: plan.n as u32,
-        total: total as u64,
-        stage: 1,
-        stages: 1,
-    };
-    SingleJudged {
-        answer: VerdictAnswer::Given(verdict),
-        plan,
-    }
+    let accepted = total <= u32::from(plan.ac);
+    let verdict = Verdict::of_one_stage(accepted, u32::from(plan.n), u64::from(total));
+    Ok(Judged { plan, verdict })
 }
 
 // A lot judged by its total, at a bench without a book.
-fn judge_total(lot: Asked, total: u32) -> SingleJudged
-    ensures { judged_beside result ≡ beside zero_plan plan_judged (judge_total (asked_paper lot) total) }
+fn judge_total(lot: Asked, total: u32) -> Result<Judged<SinglePlan>, Reason>
+    ensures { reason_by (judged_by plan_paper) result ≡ judge_total (asked_paper lot) total }
 {
-    let planned = plans::table_plan(lot);
-    let answer = planned.answer;
-    let plan = planned.plan;
-    match answer {
-        Outcome::Refused(number, place) => unjudged(number, place),
-        Outcome::Given => judge_on_plan(lot.column, total, plan),
-    }
+    judge_on_plan(lot.column, total, plans::table_plan(lot)?)
 }
 
 // A single lot closed by its total, at a bench without a book.
-pub fn close_total(old: Supply, lot: Offered, total: u32) -> SingleClosed
-    ensures { closed_beside result
-        ≡ beside zero_plan plan_closed (close_total (supply_paper old) (offered_paper lot) total) }
+pub fn close_total(old: Supply, lot: Offered, total: u32) -> Result<Closed<SinglePlan>, Refusal>
+    ensures { answer_by (closed_by plan_paper) result
+        ≡ close_total (supply_paper old) (offered_paper lot) total }
 {
-    if supply::in_range(old) {
-        let asked = asked_on(old, lot);
-        return take_single(old, lot, judge_total(asked, total));
+    if !supply::in_range(old) {
+        return Err(Reason::UnknownForm.into());
     }
-    unclosed(UNKNOWN_FORM, 0)
+    let judged = judge_total(asked_on(old, lot), total)?;
+    take_single(old, lot, Ok(judged))
 }

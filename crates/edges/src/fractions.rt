@@ -1,14 +1,13 @@
 // Document 02, T-01: the first and last box of each fraction, the clean run and what ends it, each printed with its
 // answer.
-use super::{
-    BOOK, NO_BOOK, offered_of_l, say, say_answer, say_number, say_plan, say_refusal, sequential,
-    variables,
-};
-use closing::{ClosedAnswer, Offered};
-use plans::{Asked, Outcome};
+use super::answers::Fractional;
+use super::{BOOK, NO_BOOK, offered_of_l, say, say_judged, sequential, variables};
+use closing::{Closed, Offered};
+use plans::Asked;
+use refusals::Refusal;
 use severity::STOPPED;
 use std::io;
-use supply::{CleanRun, Moved, Supply};
+use supply::{CleanRun, Supply};
 
 // Levels by their codes.
 const II: u32 = 5;
@@ -17,13 +16,12 @@ const III: u32 = 6;
 
 fn plan(
     rt: &impl Print,
-    case: &[u8],
+    case: &str,
     severity: u32,
     size: u32,
     level: u32,
     column: u32,
 ) -> io::Result<()> {
-    say(rt, case)?;
     let lot = Asked {
         severity,
         size,
@@ -31,18 +29,7 @@ fn plan(
         column,
     };
     let planned = sentencing::fractional_plan(lot, &NO_BOOK);
-    let answer = planned.answer;
-    let found = planned.plan;
-    match answer {
-        Outcome::Refused(number, place) => say_refusal(rt, number, place)?,
-        Outcome::Given => {
-            say_plan(rt, found.plan)?;
-            say(rt, b", share ")?;
-            say_number(rt, found.share as u64)?;
-            say(rt, b"\n")?;
-        }
-    }
-    Ok(())
+    say(rt, case, planned.map(Fractional))
 }
 
 // A lot of letter A at 10, which is one third of normal inspection and takes 2 items.
@@ -76,23 +63,16 @@ fn lost() -> Supply {
     none
 }
 
-fn after(answer: ClosedAnswer) -> Supply {
-    match answer {
-        ClosedAnswer::Refused(_, _) => lost(),
-        ClosedAnswer::Given(closed) => closed.supply_after,
-    }
+fn after<P: Copy>(answer: Result<Closed<P>, Refusal>) -> Supply {
+    answer.map_or(lost(), |closed| closed.supply_after)
 }
 
 fn closed(old: Supply, lot: Offered, sample: &[u8]) -> Supply {
-    let answer = sentencing::close_fractional(old, lot, &NO_BOOK, sample).answer;
-    after(answer)
+    after(sentencing::close_fractional(old, lot, &NO_BOOK, sample))
 }
 
 fn typed(old: Supply, byte: u32) -> Supply {
-    match sentencing::next(old, byte) {
-        Moved::Refused(_, _) => lost(),
-        Moved::Given(new) => new,
-    }
+    sentencing::next(old, byte).unwrap_or(lost())
 }
 
 fn clean_a(old: Supply) -> Supply {
@@ -110,60 +90,52 @@ fn two_clean() -> Supply {
     clean_a(clean_a(fresh()))
 }
 
-fn say_run(rt: &impl Print, old: Supply) -> io::Result<()> {
-    say(rt, b"severity ")?;
-    say_number(rt, old.switching.severity as u64)?;
-    say(rt, b", run ")?;
-    say_number(rt, old.clean.run as u64)
-}
-
-fn judged(
-    rt: &impl Print,
-    case: &[u8],
-    old: Supply,
-    lot: Offered,
-    sample: &[u8],
-) -> io::Result<()> {
-    say(rt, case)?;
-    say_run(rt, old)?;
-    say(rt, b", ")?;
-    let answer = sentencing::judge_fractional(old, lot, &NO_BOOK, sample).answer;
-    say_answer(rt, answer)
+fn judged(rt: &impl Print, case: &str, old: Supply, lot: Offered, sample: &[u8]) -> io::Result<()> {
+    let Supply { switching, clean } = old;
+    print!(rt;
+        "{case}severity {}, run {}, ",
+        switching.severity, clean.run
+    )?;
+    say_judged(
+        rt,
+        "",
+        sentencing::judge_fractional(old, lot, &NO_BOOK, sample),
+    )
 }
 
 // One bad item in a lot of letter A.
-fn one_bad(rt: &impl Print, case: &[u8], old: Supply) -> io::Result<()> {
+fn one_bad(rt: &impl Print, case: &str, old: Supply) -> io::Result<()> {
     let one = [0u8, 0, 1, 0];
     judged(rt, case, old, lot_of_a(8), &one)
 }
 
 fn boxes(rt: &impl Print) -> io::Result<()> {
-    plan(rt, b"normal A, 10: ", 0, 8, II, 15)?;
-    plan(rt, b"normal R, 0.010: ", 0, 500001, III, 0)?;
-    plan(rt, b"normal A, 15: ", 0, 8, II, 16)?;
-    plan(rt, b"normal B, 10: ", 0, 8, III, 15)?;
-    plan(rt, b"normal R, 0.015: ", 0, 500001, III, 1)?;
-    plan(rt, b"normal A, 6.5: ", 0, 8, II, 14)?;
-    plan(rt, b"tightened A, 15: ", 1, 8, II, 16)?;
-    plan(rt, b"tightened B, 10: ", 1, 8, III, 15)?;
-    plan(rt, b"tightened R, 0.015: ", 1, 500001, III, 1)?;
-    plan(rt, b"tightened B, 15: ", 1, 8, III, 16)?;
-    plan(rt, b"tightened C, 10: ", 1, 15, III, 15)?;
-    plan(rt, b"tightened R, 0.025: ", 1, 500001, III, 2)?;
-    plan(rt, b"tightened A, 10: ", 1, 8, II, 15)?;
-    plan(rt, b"size 3, normal B, 10: ", 0, 3, III, 15)?;
-    plan(rt, b"size 2, normal B, 10: ", 0, 2, III, 15)
+    plan(rt, "normal A, 10: ", 0, 8, II, 15)?;
+    plan(rt, "normal R, 0.010: ", 0, 500001, III, 0)?;
+    plan(rt, "normal A, 15: ", 0, 8, II, 16)?;
+    plan(rt, "normal B, 10: ", 0, 8, III, 15)?;
+    plan(rt, "normal R, 0.015: ", 0, 500001, III, 1)?;
+    plan(rt, "normal A, 6.5: ", 0, 8, II, 14)?;
+    plan(rt, "tightened A, 15: ", 1, 8, II, 16)?;
+    plan(rt, "tightened B, 10: ", 1, 8, III, 15)?;
+    plan(rt, "tightened R, 0.015: ", 1, 500001, III, 1)?;
+    plan(rt, "tightened B, 15: ", 1, 8, III, 16)?;
+    plan(rt, "tightened C, 10: ", 1, 15, III, 15)?;
+    plan(rt, "tightened R, 0.025: ", 1, 500001, III, 2)?;
+    plan(rt, "tightened A, 10: ", 1, 8, II, 15)?;
+    plan(rt, "size 3, normal B, 10: ", 0, 3, III, 15)?;
+    plan(rt, "size 2, normal B, 10: ", 0, 2, III, 15)
 }
 
 fn fractions(rt: &impl Print) -> io::Result<()> {
-    one_bad(rt, b"one bad under 1/3, no lot before: ", fresh())?;
-    one_bad(rt, b"after one clean: ", clean_a(fresh()))?;
-    one_bad(rt, b"after two clean: ", two_clean())?;
-    one_bad(rt, b"after three clean: ", clean_a(two_clean()))?;
+    one_bad(rt, "one bad under 1/3, no lot before: ", fresh())?;
+    one_bad(rt, "after one clean: ", clean_a(fresh()))?;
+    one_bad(rt, "after two clean: ", two_clean())?;
+    one_bad(rt, "after three clean: ", clean_a(two_clean()))?;
     let two = [1u8, 0, 1, 0];
     judged(
         rt,
-        b"two bad after two clean: ",
+        "two bad after two clean: ",
         two_clean(),
         lot_of_a(8),
         &two,
@@ -171,67 +143,67 @@ fn fractions(rt: &impl Print) -> io::Result<()> {
     let one = [0u8, 0, 1, 0, 0, 0];
     judged(
         rt,
-        b"one bad under 1/2, no lot before: ",
+        "one bad under 1/2, no lot before: ",
         fresh(),
         lot_of_b(),
         &one,
     )?;
     judged(
         rt,
-        b"after one clean of B: ",
+        "after one clean of B: ",
         clean_b(fresh()),
         lot_of_b(),
         &one,
     )?;
-    judged(rt, b"after two clean of A: ", two_clean(), lot_of_b(), &one)?;
+    judged(rt, "after two clean of A: ", two_clean(), lot_of_b(), &one)?;
     let again = closed(two_clean(), lot_of_a(8), &one[..4]);
-    one_bad(rt, b"one accepted so, and again: ", again)
+    one_bad(rt, "one accepted so, and again: ", again)
 }
 
 fn broken_runs(rt: &impl Print) -> io::Result<()> {
-    one_bad(rt, b"two clean, then byte 0: ", typed(two_clean(), 0))?;
+    one_bad(rt, "two clean, then byte 0: ", typed(two_clean(), 0))?;
     let six = [0u8; 12];
-    let staged = sentencing::close_staged(two_clean(), offered_of_l(), &BOOK, &six).answer;
-    one_bad(rt, b"then a staged lot: ", after(staged))?;
-    let single = sentencing::close_single(two_clean(), lot_of_a(8), &NO_BOOK, &six[..10]).answer;
-    one_bad(rt, b"then the same box with its arrow: ", after(single))?;
-    one_bad(rt, b"then a clean lot of B: ", clean_b(two_clean()))
+    let staged = sentencing::close_staged(two_clean(), offered_of_l(), &BOOK, &six);
+    one_bad(rt, "then a staged lot: ", after(staged))?;
+    let single = sentencing::close_single(two_clean(), lot_of_a(8), &NO_BOOK, &six[..10]);
+    one_bad(rt, "then the same box with its arrow: ", after(single))?;
+    one_bad(rt, "then a clean lot of B: ", clean_b(two_clean()))
 }
 
 fn changed_severity(rt: &impl Print) -> io::Result<()> {
     let one = [0u8, 0, 1, 0, 0, 0];
     let tightened = typed(typed(fresh(), 3), 3);
     let four = clean_b(clean_b(clean_b(clean_b(tightened))));
-    judged(rt, b"tightened, four clean of B: ", four, lot_of_b(), &one)?;
-    judged(rt, b"and a fifth: ", clean_b(four), lot_of_b(), &one)
+    judged(rt, "tightened, four clean of B: ", four, lot_of_b(), &one)?;
+    judged(rt, "and a fifth: ", clean_b(four), lot_of_b(), &one)
 }
 
 fn kept_runs(rt: &impl Print) -> io::Result<()> {
-    one_bad(rt, b"two clean, then steady: ", typed(two_clean(), 5))?;
+    one_bad(rt, "two clean, then steady: ", typed(two_clean(), 5))?;
     let mut back = lot_of_a(8);
     back.again = true;
     let two = [1u8, 0, 1, 0];
     one_bad(
         rt,
-        b"then a resubmitted lot: ",
+        "then a resubmitted lot: ",
         closed(two_clean(), back, &two),
     )?;
     let clean = [0u8; 4];
     let other = closed(clean_a(fresh()), lot_of_a(3), &clean);
-    one_bad(rt, b"lots of 8 and of 3, clean: ", other)
+    one_bad(rt, "lots of 8 and of 3, clean: ", other)
 }
 
 // Verdicts that no record takes in.
 fn passed_over(rt: &impl Print) -> io::Result<()> {
     let old = two_clean();
     let items = [0u8; 38];
-    sequential(rt, b"two clean, then a sequential lot: ", &items)?;
+    sequential(rt, "two clean, then a sequential lot: ", &items)?;
     let readings = [10u8, 0, 12, 0, 14, 0];
-    variables(rt, b"and a variables lot: ", 0, 20, &readings)?;
-    one_bad(rt, b"and one bad: ", old)
+    variables(rt, "and a variables lot: ", 0, 20, &readings)?;
+    one_bad(rt, "and one bad: ", old)
 }
 
-fn lent(rt: &impl Print, case: &[u8], run: u8, letter: u8, column: u8) -> io::Result<()> {
+fn lent(rt: &impl Print, case: &str, run: u8, letter: u8, column: u8) -> io::Result<()> {
     let switching = severity::fresh(severity::ours());
     let clean = CleanRun {
         run,
@@ -242,11 +214,11 @@ fn lent(rt: &impl Print, case: &[u8], run: u8, letter: u8, column: u8) -> io::Re
 }
 
 fn lent_records(rt: &impl Print) -> io::Result<()> {
-    lent(rt, b"A, 10 lent: ", 2, 0, 15)?;
-    lent(rt, b"run 3 lent: ", 3, 0, 15)?;
-    lent(rt, b"no fraction lent: ", 1, 0, 14)?;
-    lent(rt, b"column over 15 lent: ", 1, 0, 16)?;
-    lent(rt, b"a plan beside no run lent: ", 0, 0, 15)
+    lent(rt, "A, 10 lent: ", 2, 0, 15)?;
+    lent(rt, "run 3 lent: ", 3, 0, 15)?;
+    lent(rt, "no fraction lent: ", 1, 0, 14)?;
+    lent(rt, "column over 15 lent: ", 1, 0, 16)?;
+    lent(rt, "a plan beside no run lent: ", 0, 0, 15)
 }
 
 pub(crate) fn all(rt: &impl Print) -> io::Result<()> {

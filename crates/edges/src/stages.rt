@@ -1,6 +1,7 @@
 // Document 02, T-02: what a staged lot does to the score, by the stage that accepts it and how many there are.
-use super::{BOOK, five_totals, offered_of_l, say, say_number, say_refusal};
-use closing::{ClosedAnswer, Offered};
+use super::answers::Lot;
+use super::{BOOK, five_totals, offered_of_l, say};
+use closing::Offered;
 use std::io;
 use supply::Supply;
 
@@ -19,53 +20,31 @@ pub(crate) fn scored(score: u8, standing: bool) -> Supply {
     old
 }
 
-pub(crate) fn say_closed(rt: &impl Print, answer: ClosedAnswer) -> io::Result<()> {
-    match answer {
-        ClosedAnswer::Refused(number, place) => say_refusal(rt, number, place)?,
-        ClosedAnswer::Given(closed) => {
-            say(rt, b"stage ")?;
-            say_number(rt, closed.verdict.stage as u64)?;
-            say(rt, b" of ")?;
-            say_number(rt, closed.verdict.stages as u64)?;
-            say(rt, b", byte ")?;
-            let event = closed.event;
-            say_number(rt, severity::byte_of(event) as u64)?;
-            say(rt, b", severity ")?;
-            say_number(rt, closed.supply_after.switching.severity as u64)?;
-            say(rt, b", score ")?;
-            say_number(rt, closed.supply_after.switching.score as u64)?;
-            say(rt, b"\n")?;
-        }
-    }
-    Ok(())
-}
-
 // A lot of letter B, from a record with this score; resubmitted, and with both orders standing, where it says so.
 fn closed(
     rt: &impl Print,
-    case: &[u8],
+    case: &str,
     column: u32,
     sample: &[u8],
     again: bool,
     score: u8,
     standing: bool,
 ) -> io::Result<()> {
-    say(rt, case)?;
     let lot = Offered {
         again,
         size: 8,
         level: 6,
         column,
     };
-    let answer = sentencing::close_staged(scored(score, standing), lot, &STAGES, sample).answer;
-    say_closed(rt, answer)
+    let closed = sentencing::close_staged(scored(score, standing), lot, &STAGES, sample);
+    say(rt, case, closed.map(Lot))
 }
 
 fn two_stages(rt: &impl Print) -> io::Result<()> {
     let first = [0u8, 0];
     closed(
         rt,
-        b"two stages, at the first: ",
+        "two stages, at the first: ",
         10,
         &first,
         false,
@@ -73,24 +52,24 @@ fn two_stages(rt: &impl Print) -> io::Result<()> {
         false,
     )?;
     let second = [1u8, 0, 0, 0];
-    closed(rt, b"at the second: ", 10, &second, false, 5, false)
+    closed(rt, "at the second: ", 10, &second, false, 5, false)
 }
 
 fn five_stages(rt: &impl Print) -> io::Result<()> {
     let third = [1u8, 0, 1, 0, 0, 0];
     closed(
         rt,
-        b"five stages, at the third: ",
+        "five stages, at the third: ",
         11,
         &third,
         false,
         5,
         false,
     )?;
-    closed(rt, b"resubmitted: ", 11, &third, true, 5, false)?;
+    closed(rt, "resubmitted: ", 11, &third, true, 5, false)?;
     closed(
         rt,
-        b"from 27, nothing declared: ",
+        "from 27, nothing declared: ",
         11,
         &third,
         false,
@@ -99,7 +78,7 @@ fn five_stages(rt: &impl Print) -> io::Result<()> {
     )?;
     closed(
         rt,
-        b"from 27, steady and permission: ",
+        "from 27, steady and permission: ",
         11,
         &third,
         false,
@@ -107,10 +86,10 @@ fn five_stages(rt: &impl Print) -> io::Result<()> {
         true,
     )?;
     let fourth = [1u8, 0, 1, 0, 1, 0, 0, 0];
-    closed(rt, b"at the fourth: ", 11, &fourth, false, 5, false)?;
+    closed(rt, "at the fourth: ", 11, &fourth, false, 5, false)?;
     closed(
         rt,
-        b"from 27, steady and permission: ",
+        "from 27, steady and permission: ",
         11,
         &fourth,
         false,
@@ -120,15 +99,14 @@ fn five_stages(rt: &impl Print) -> io::Result<()> {
 }
 
 // The five stages of 3 of document 01.
+fn closed_of_l(rt: &impl Print, case: &str, sample: &[u8]) -> io::Result<()> {
+    let closed = sentencing::close_staged(scored(5, false), offered_of_l(), &BOOK, sample);
+    say(rt, case, closed.map(Lot))
+}
+
 fn stages_of_three(rt: &impl Print) -> io::Result<()> {
-    let clean = [0u8; 12];
-    say(rt, b"six clean items in stages of 3: ")?;
-    let answer = sentencing::close_staged(scored(5, false), offered_of_l(), &BOOK, &clean).answer;
-    say_closed(rt, answer)?;
-    let five = five_totals();
-    say(rt, b"totals 1,2,2,2,3 in stages of 3: ")?;
-    let answer = sentencing::close_staged(scored(5, false), offered_of_l(), &BOOK, &five).answer;
-    say_closed(rt, answer)
+    closed_of_l(rt, "six clean items in stages of 3: ", &[0; 12])?;
+    closed_of_l(rt, "totals 1,2,2,2,3 in stages of 3: ", &five_totals())
 }
 
 pub(crate) fn all(rt: &impl Print) -> io::Result<()> {

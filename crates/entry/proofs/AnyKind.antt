@@ -1,9 +1,8 @@
--- What holds of a kind by its number: any number from 3 on is that of a kind laid out as the fourth. And a table that
--- is a match: what an arm gives at its key, and what the last one gives past the listed keys.
+-- What holds of a kind by its number: any number from 3 on is that of a kind laid out as the fourth. And the ranges of
+-- a kind by their places.
 -- Assumes nothing.
 use Prim.Native.Nat.{ℕ, zero, suc, ◌≤◌, ◌<◌, zero-le}
 use mathlib.Core.Path.{◌≡◌, refl, sym}
-use mathlib.Core.Bool.{true}
 use mathlib.Core.List.{List}
 use native.Mathlib.Omega.{arith}
 use lib.ListN.{length, get_or, get_or-eq_default}
@@ -28,12 +27,6 @@ pub entry-deep : (n x : ℕ) → (kind_at n).key < (kind_at n).size x
 entry-deep n x =
     by-kind (λ n k. k.key < k.size x) (omega arith) (omega arith) (omega arith) (λ n l. omega arith) n
 
--- only staged and sequential entries have rules
-pub no-rule : (before : List ℕ) (x n : ℕ) → (n ≡ 1 → ⊥) → (n ≡ 2 → ⊥) → true ≡ (kind_at n).rule before x
-no-rule before x =
-    by-kind (λ n k. (n ≡ 1 → ⊥) → (n ≡ 2 → ⊥) → true ≡ k.rule before x) (λ h j. refl) (λ h j. absurd (h refl))
-    (λ h j. absurd (j refl)) (λ n l h j. refl)
-
 -- what the last arm is told: i is none of the n keys before it
 abbrev pub None : ℕ → ℕ → Type 0
 None zero i = Unit {0}
@@ -53,23 +46,21 @@ last-kind n h = go n (none-below 3 n h)
     go = by-kind (λ n k. 3 ≤ n → k ≡ variables) (never (omega arith)) (never (omega arith)) (never (omega arith))
         (λ n l h. refl)
 
--- the range at place i of a kind's list
 module _ (rs : List Range) (i : ℕ) where
+  -- the range at a place of a kind's list ..
   pub range-is : (x : Range) (k : ℕ) → i ≡ k → x ≡ get_or rs k anything → x ≡ get_or rs i anything
   range-is x k e q = rw e q
 
+  -- .. and past it, where any number is let through
   pub range-past : None (length rs) i → anything ≡ get_or rs i anything
   range-past h = sym (get_or-eq_default rs anything {n = i} (none-below (length rs) i h))
 
--- the list of the kind
+-- the list is that of the kind ..
 pub ranges-are : (x : Range) (kind k i : ℕ) → kind ≡ k → x ≡ get_or (kind_at k).ranges i anything
     → x ≡ get_or (kind_at kind).ranges i anything
 ranges-are x kind k i e q = rw e q
 
+-- .. and from the fourth kind on that of variables
 pub ranges-last : (x : Range) (kind i : ℕ) → None 3 kind → x ≡ get_or variables.ranges i anything
     → x ≡ get_or (kind_at kind).ranges i anything
 ranges-last x kind i h q = rw (last-kind kind h) q
-
--- an entry of variables or sigma has five numbers
-pub size-last : (kind after : ℕ) → None 3 kind → (5 ≡ (kind_at kind).size after) × (5 < 200000)
-size-last kind after h = rw (last-kind kind h) (refl, omega arith)

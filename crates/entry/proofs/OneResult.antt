@@ -1,6 +1,9 @@
 -- Each promise of `entry` admits one result: two answers that are the same on paper are the same.
 -- Assumes nothing.
-use mathlib.Core.Path.{◌≡◌, refl}
+use Prim.Native.Nat.{ℕ}
+use mathlib.Core.Path.{◌≡◌, refl, ap}
+use mathlib.Core.List.{List, [], ◌∷◌, map}
+use Rattle.std.specs.Prelude.{Result, Ok, Err}
 use Rattle.rules.specs.Book as paper
 use Rattle.rules.specs.Staged as staged
 use Rattle.rules.specs.Sequential as sequential
@@ -13,29 +16,44 @@ use Rattle.entry.specs.declared.StagedPlan.{StagedPlan}
 use Rattle.entry.specs.declared.SequentialPlan.{SequentialPlan}
 use Rattle.entry.specs.declared.VariablesPlan.{VariablesPlan}
 use Rattle.entry.specs.declared.SidesPlan.{SidesPlan}
-use Rattle.entry.specs.declared.Walk.{Walk}
-use Rattle.entry.specs.declared.Walk.TheVariants.{Ends, Broken, Short}
+use Rattle.entry.specs.declared.Fault.{Fault}
+use Rattle.entry.specs.declared.Fault.TheVariants.{Broken, Short}
+use Rattle.entry.specs.declared.Stage.{Stage}
 
-walk_back : paper.Walk → Walk
-walk_back (paper.ends p) = Ends p
-walk_back (paper.broken p) = Broken p
-walk_back paper.short = Short
+walk_back : paper.Walk → Result ℕ Fault
+walk_back (paper.ends p) = Ok p
+walk_back (paper.broken p) = Err (Broken p)
+walk_back paper.short = Err Short
 
-pub walk-one : (a b : Walk) → walk_paper a ≡ walk_paper b → a ≡ b
+pub walk-one : (a b : Result ℕ Fault) → walk_paper a ≡ walk_paper b → a ≡ b
 unfolding walk_back
 walk-one = read-back walk_paper walk_back is
   where
-    is : (a : Walk) → walk_back (walk_paper a) ≡ a
-    is (Ends p) = refl
-    is (Broken p) = refl
-    is Short = refl
+    is : (a : Result ℕ Fault) → walk_back (walk_paper a) ≡ a
+    is (Ok p) = refl
+    is (Err (Broken p)) = refl
+    is (Err Short) = refl
 
 pub reduced-one : (a b : ReducedSingle) → reduced_paper a ≡ reduced_paper b → a ≡ b
 reduced-one = read-back reduced_paper (λ p. record { n = p.n; ac = p.ac }) (λ a. refl)
 
+-- stages of their sizes, Ac and Re
+abbrev stages_back : List ℕ → List ℕ → List ℕ → List Stage
+stages_back (n ∷ ns) (a ∷ acs) (r ∷ res) = record { size = n; ac = a; re = r } ∷ stages_back ns acs res
+stages_back _ _ _ = []
+
 -- the code's plan of the documents'
 abbrev pub staged_back : staged.StagedPlan → StagedPlan
-staged_back p = record { stages = p.stages; sizes = p.sizes; acs = p.acs; res = p.res }
+staged_back p = record { count = p.stages; stages = stages_back p.sizes p.acs p.res }
+
+pub staged-back : (p : StagedPlan) → staged_back (staged_paper p) ≡ p
+staged-back p = ap (λ (ss : List Stage). record { count = p.count; stages = ss }) (back p.stages)
+  where
+    back : (ss : List Stage)
+        → stages_back (map (λ (s : Stage). s.size) ss) (map (λ (s : Stage). s.ac) ss) (map (λ (s : Stage). s.re) ss)
+        ≡ ss
+    back [] = refl
+    back (s ∷ ss) = ap (λ (l : List Stage). s ∷ l) (back ss)
 
 abbrev pub sequential_back : sequential.SequentialPlan → SequentialPlan
 sequential_back p = record { ha = p.h_a; hr = p.h_r; g = p.g; nt = p.nt; at_nt = p.at_nt }
@@ -47,7 +65,7 @@ abbrev pub sides_back : limits.SidesPlan → SidesPlan
 sides_back p = record { n = p.n; upper_k = p.upper_k; lower_k = p.lower_k }
 
 pub staged-one : (a b : StagedPlan) → staged_paper a ≡ staged_paper b → a ≡ b
-staged-one = read-back staged_paper staged_back (λ a. refl)
+staged-one = read-back staged_paper staged_back staged-back
 
 pub sequential-one : (a b : SequentialPlan) → sequential_paper a ≡ sequential_paper b → a ≡ b
 sequential-one = read-back sequential_paper sequential_back (λ a. refl)

@@ -1,53 +1,75 @@
--- Seven places that are filled from the front with every s-th number of an entry, and are 0 past them.
+-- Seven stages that are filled from the front with numbers of an entry, and are 0 past them.
 -- Assumes nothing.
 use Prim.Native.Nat.{ℕ, zero, suc, ◌+◌, ◌-◌, ◌*◌, ◌≤◌, ◌<◌}
 use mathlib.Core.Path.{◌≡◌, refl, ap, sym, ◌∙◌}
-use mathlib.Core.List.{List, ◌++◌}
+use mathlib.Core.List.{List, [], ◌∷◌, ◌++◌, map, append_assoc}
 use native.Mathlib.Omega.{arith}
-use borrow.Author.Tests.{lt-leb, le-leb}
-use lib.ListN.{length, get_or, take, drop, set, replicate, length-set, take-append-drop}
-use lib.Seq.{drop-drop, drop-set-lt, get_or-take}
+use borrow.Author.Tests.{le-leb}
+use native.Mathlib.Numerals.{add-one}
+use lib.ListN.{length, get_or, take, set, replicate}
+use Rattle.std.proofs.lemmas.List.{map-set}
+use lib.Seq.{get_or-take, set-append_seam}
 use Rattle.rules.specs.Book.{staged, every, seven}
 use Rattle.rules.specs.Layout.{entry_of}
 use Rattle.rules.proofs.HeldStaged.{every-length}
-use Rattle.rules.proofs.Steps.{fill-next, fill-done}
-use Rattle.entry.specs.Paper.{no_stages, staged_read, Filling}
+use Rattle.entry.specs.Paper.{staged_paper, staged_read}
+use Rattle.entry.specs.declared.Stage.{Stage}
 
--- the loop that fills them
-module _ {ws : List ℕ} {from step m : ℕ} where
-  pub filling-opens : Filling ws from step m (replicate 7 0) from 0
-  filling-opens =
-      let z : m - 0 ≡ m = omega arith in
-      record {
-        counted = omega arith;
-        seven = refl;
-        near = omega arith;
-        front = ap (λ (n : ℕ). every from step n ws) z;
-        rest = refl;
-      }
+-- one more number behind the first i
+every-more : (p s i : ℕ) (ws : List ℕ) → every p s (suc i) ws ≡ every p s i ws ++ get_or ws (p + s * i) 0 ∷ []
+unfolding every
+every-more p s zero ws = let z : p + s * 0 ≡ p = omega arith in rw z
+every-more p s (suc i) ws =
+    let z : p + s * suc i ≡ p + s + s * i = omega arith in
+    rw z (ap (λ (l : List ℕ). get_or ws p 0 ∷ l) (every-more (p + s) s i ws))
 
-  module _ {out : List ℕ} {p i : ℕ} (f : Filling ws from step m out p i) where
-    pub filling-next : {x : ℕ} → m ≤ 7 → step ≤ 2 → i < m → x ≡ get_or ws p 0
-        → Filling ws from step m (set out i x) (p + step) (i + 1)
-    filling-next {x} few two h q =
-        let less : 7 - i ≡ suc (7 - (i + 1)) = omega arith in
-        record {
-          counted = omega arith;
-          seven = simp length-set f.seven;
-          near = omega (arith, f.near);
-          front = rw q (sym (fill-next p step m i ws out h (omega (arith, f.seven))) ∙ f.front);
-          rest =
-              drop-set-lt (i + 1) out i x (omega arith) ∙ sym (drop-drop 1 i out) ∙ ap (drop 1) f.rest
-              ∙ ap (λ (n : ℕ). drop 1 (replicate n 0)) less;
-        }
+seven-next : (p s i : ℕ) (ws : List ℕ) (x : ℕ) → i < 7 → x ≡ get_or ws (p + s * i) 0
+    → set (seven (every p s i ws)) i x ≡ seven (every p s (i + 1) ws)
+seven-next p s i ws x h q =
+    let xs = every p s i ws in
+    let zeros : List ℕ = replicate (6 - i) 0 in
+    let n : length xs ≡ i = every-length p s i ws in
+    let m : length (every p s (suc i) ws) ≡ suc i = every-length p s (suc i) ws in
+    let less : 7 - length xs ≡ suc (6 - i) = omega arith in
+    let left : 7 - length (every p s (suc i) ws) ≡ 6 - i = omega arith in
+    let write : set (xs ++ 0 ∷ zeros) i x ≡ xs ++ x ∷ zeros =
+    ap (λ (k : ℕ). set (xs ++ 0 ∷ zeros) k x) (sym n) ∙ set-append_seam xs 0 zeros x in
+    ap (λ (k : ℕ). set (xs ++ replicate k 0) i x) less ∙ write ∙ ap (λ (y : ℕ). xs ++ y ∷ zeros) q
+    ∙ sym (append_assoc xs (get_or ws (p + s * i) 0 ∷ []) zeros)
+    ∙ ap (λ (l : List ℕ). l ++ zeros) (sym (every-more p s i ws))
+    ∙ ap (λ (k : ℕ). every p s (suc i) ws ++ replicate k 0) (sym left)
+    ∙ ap (λ (k : ℕ). seven (every p s k ws)) (sym (add-one i))
 
-    pub filling-done : m ≤ i → out ≡ seven (every from step m ws)
-    filling-done h =
-        let xs = every from step m ws in
-        let n : 7 - i ≡ 7 - length xs = omega (arith, f.counted, every-length from step m ws) in
-        let front : take i out ≡ xs = sym (fill-done p step m i ws out h) ∙ f.front in
-        sym (take-append-drop i out) ∙ ap (λ (x : List ℕ). x ++ drop i out) front
-        ∙ ap (λ (x : List ℕ). xs ++ x) (f.rest ∙ ap (λ (x : ℕ). replicate x 0) n)
+-- the first i of the m stages are read
+pub record StagesRead (ws : List ℕ) (m i : ℕ) (stages : List Stage) : Type 0 where
+  pub sizes : map (λ (s : Stage). s.size) stages ≡ seven (every 4 1 i ws)
+  pub acs : map (λ (s : Stage). s.ac) stages ≡ seven (every (4 + m) 2 i ws)
+  pub res : map (λ (s : Stage). s.re) stages ≡ seven (every (5 + m) 2 i ws)
+
+pub stages-none : {ws : List ℕ} {m : ℕ} (s : Stage) → s.size ≡ 0 → s.ac ≡ 0 → s.re ≡ 0
+    → StagesRead ws m 0 (replicate 7 s)
+unfolding every
+stages-none s n a r =
+    record {
+      sizes = ap (λ (x : ℕ). replicate 7 x) n;
+      acs = ap (λ (x : ℕ). replicate 7 x) a;
+      res = ap (λ (x : ℕ). replicate 7 x) r;
+    }
+
+pub stages-next : {ws : List ℕ} {m i : ℕ} {stages : List Stage} (s : Stage) → StagesRead ws m i stages → i < 7
+    → s.size ≡ get_or ws (4 + i) 0 → s.ac ≡ get_or ws (4 + m + 2 * i) 0 → s.re ≡ get_or ws (5 + m + 2 * i) 0
+    → StagesRead ws m (i + 1) (set stages i s)
+stages-next {ws} {m} {i} {stages} s r h n a e =
+    let one : 4 + i ≡ 4 + 1 * i = omega arith in
+    record {
+      sizes =
+          map-set _ stages i s ∙ ap (λ (l : List ℕ). set l i s.size) r.sizes
+          ∙ seven-next 4 1 i ws s.size h (n ∙ ap (λ (k : ℕ). get_or ws k 0) one);
+      acs =
+          map-set _ stages i s ∙ ap (λ (l : List ℕ). set l i s.ac) r.acs ∙ seven-next (4 + m) 2 i ws s.ac h a;
+      res =
+          map-set _ stages i s ∙ ap (λ (l : List ℕ). set l i s.re) r.res ∙ seven-next (5 + m) 2 i ws s.re h e;
+    }
 
 -- numbers of an entry are those of the stretch that it begins, where they lie within it
 pub every-taken : (p s n size : ℕ) (ws : List ℕ) → ((i : ℕ) → i < n → p + s * i < size)
@@ -69,27 +91,18 @@ module _ (ws : List ℕ) where
   stages-are : get_or (entry_of staged ws) 3 0 ≡ m
   stages-are = get_or-take (4 + 3 * m) ws 3 0 (omega arith)
 
-  pub staged-many : 7 < m → no_stages ≡ staged_read (entry_of staged ws)
-  staged-many h = rw (stages-are, lt-leb m 7 h)
-
-  pub staged-few : m ≤ 7
-      → record {
-        stages = m;
-        sizes = seven (every 4 1 m ws);
-        acs = seven (every (4 + m) 2 m ws);
-        res = seven (every (5 + m) 2 m ws);
-      }
-      ≡ staged_read (entry_of staged ws)
-  staged-few h =
+  pub staged-few : {i : ℕ} {stages : List Stage} → StagesRead ws m i stages → i ≡ m → m ≤ 7
+      → staged_paper (record { count = m; stages = stages }) ≡ staged_read (entry_of staged ws)
+  staged-few r e h =
       let size = 4 + 3 * m in
       rw (
+        r.sizes,
+        r.acs,
+        r.res,
+        e,
         stages-are,
         le-leb m 7 h,
         ← every-taken 4 1 m size ws (λ i l. omega arith),
         ← every-taken (4 + m) 2 m size ws (λ i l. omega arith),
         ← every-taken (5 + m) 2 m size ws (λ i l. omega arith),
       )
-
--- a number of an entry is that of the stretch that it begins
-pub number-taken : (ws : List ℕ) (n i : ℕ) → i < n → get_or ws i 0 ≡ get_or (take n ws) i 0
-number-taken ws n i h = sym (get_or-take n ws i 0 h)

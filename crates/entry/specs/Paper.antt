@@ -1,6 +1,6 @@
 -- Document 01's values for each case of the code's types. Definitions only.
-use Rattle.std.specs.Prelude.{ℕ, ◌+◌, ◌*◌, ◌-◌, ◌≤◌, ◌≡◌, Bool, cond, ◌&&◌, List, [], ◌++◌, leb, ltb, eqb, length}
-use Rattle.std.specs.Prelude.{get_or, take, drop, replicate}
+use Rattle.std.specs.Prelude.{ℕ, ◌+◌, Bool, cond, ◌&&◌, List, [], leb, ltb, eqb, length}
+use Rattle.std.specs.Prelude.{get_or, map, Result, Ok, Err}
 use Rattle.rules.specs.Book as paper
 use Rattle.rules.specs.Book.{Kind, kind_at, size_of, key_of, key_for, rises, numbers_from, every, seven, staged_of}
 use Rattle.rules.specs.Staged as staged
@@ -8,20 +8,26 @@ use Rattle.rules.specs.Sequential as sequential
 use Rattle.rules.specs.Variables as variables
 use Rattle.rules.specs.Limits as limits
 use Rattle.entry.specs.declared.ReducedSingle.{ReducedSingle}
+use Rattle.entry.specs.declared.Stage.{Stage}
 use Rattle.entry.specs.declared.StagedPlan.{StagedPlan}
 use Rattle.entry.specs.declared.SequentialPlan.{SequentialPlan}
 use Rattle.entry.specs.declared.VariablesPlan.{VariablesPlan}
 use Rattle.entry.specs.declared.SidesPlan.{SidesPlan}
 use Rattle.entry.specs.declared.Key.{Key}
-use Rattle.entry.specs.declared.Walk.{Walk}
-use Rattle.entry.specs.declared.Walk.TheVariants.{Ends, Broken, Short}
-use Rattle.entry.specs.declared.ranges.Range.{Range}
+use Rattle.entry.specs.declared.Fault.{Fault}
+use Rattle.entry.specs.declared.Fault.TheVariants.{Broken, Short}
 
 abbrev pub reduced_paper : ReducedSingle → paper.ReducedSingle
 reduced_paper p = record { n = p.n; ac = p.ac }
 
 abbrev pub staged_paper : StagedPlan → staged.StagedPlan
-staged_paper p = record { stages = p.stages; sizes = p.sizes; acs = p.acs; res = p.res }
+staged_paper p =
+    record {
+      stages = p.count;
+      sizes = map (λ (s : Stage). s.size) p.stages;
+      acs = map (λ (s : Stage). s.ac) p.stages;
+      res = map (λ (s : Stage). s.re) p.stages;
+    }
 
 abbrev pub sequential_paper : SequentialPlan → sequential.SequentialPlan
 sequential_paper p = record { h_a = p.ha; h_r = p.hr; g = p.g; nt = p.nt; at_nt = p.at_nt }
@@ -32,7 +38,7 @@ variables_paper p = record { n = p.n; k = p.k }
 abbrev pub sides_paper : SidesPlan → limits.SidesPlan
 sides_paper p = record { n = p.n; upper_k = p.upper_k; lower_k = p.lower_k }
 
-abbrev pub range_paper : Range → paper.Range
+abbrev pub range_paper : ℕ × ℕ → paper.Range
 range_paper r = record { low = r.0; high = r.1 }
 
 -- the numbers of a key in an entry of a kind
@@ -43,10 +49,10 @@ key_paper k key = key_for k key.severity key.letter key.column
 abbrev pub pair_is : List ℕ → ℕ → ℕ → ℕ → Bool
 pair_is ws i x y = ltb (i + 1) (length ws) && (eqb (get_or ws i 0) x && eqb (get_or ws (i + 1) 0) y)
 
-abbrev pub walk_paper : Walk → paper.Walk
-walk_paper (Ends p) = paper.ends p
-walk_paper (Broken p) = paper.broken p
-walk_paper Short = paper.short
+abbrev pub walk_paper : Result ℕ Fault → paper.Walk
+walk_paper (Ok p) = paper.ends p
+walk_paper (Err (Broken p)) = paper.broken p
+walk_paper (Err Short) = paper.short
 
 -- the numbers of the entry that a stretch begins with
 abbrev pub entry_read : ℕ → List ℕ → paper.Walk
@@ -62,12 +68,3 @@ no_stages = record { stages = 0; sizes = seven []; acs = seven []; res = seven [
 
 abbrev pub staged_read : List ℕ → staged.StagedPlan
 staged_read e = cond (leb (get_or e 3 0) 7) (staged_of e) no_stages
-
--- The loop that fills seven places, the first m of them with every step-th number: i are filled, and the next stands
--- at p.
-pub record Filling (ws : List ℕ) (from step m : ℕ) (out : List ℕ) (p i : ℕ) : Type 0 where
-  pub counted : i ≤ m
-  pub seven : length out ≡ 7
-  pub near : p ≤ from + 2 * i
-  pub front : take i out ++ every p step (m - i) ws ≡ every from step m ws
-  pub rest : drop i out ≡ replicate (7 - i) 0

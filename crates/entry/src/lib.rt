@@ -3,19 +3,20 @@
 // One entry of a plan book, of each of the five kinds: its key, its numbers, and the plan that it holds.
 ghost use Rattle.std.specs.Prelude.{◌≡◌, ◌≤◌, ◌<◌, length};
 ghost use Rattle.rules.specs.Numbers.{numbers_of};
-ghost use Rattle.rules.specs.Book.{kind_at, size_of, right, key_of, key_falls, same_key, could_hold, every, seven};
+ghost use Rattle.rules.specs.Book.{kind_at, size_of, right, key_of, key_falls, same_key, could_hold};
 ghost use Rattle.rules.specs.Book as paper;
 ghost use Rattle.rules.specs.Book.{reduced_singles, staged, sequential, variables, reduced_of, sequential_of};
 ghost use Rattle.rules.specs.Book.{variables_of};
 ghost use Rattle.rules.specs.Layout.{entry_of};
 ghost use Rattle.rules.specs.Entries.{variables_entry};
-ghost use Rattle.entry.specs.Paper.{walk_paper, key_paper, pair_is, entry_read, rises_after, no_stages, staged_read};
+ghost use Rattle.entry.specs.Paper.{walk_paper, key_paper, pair_is, entry_read, rises_after, staged_read};
 ghost use Rattle.entry.specs.Paper.{reduced_paper, staged_paper, sequential_paper, variables_paper};
 
 mod keeping;
 mod ranges;
 
 // The kinds of section, in their order in the book; the fifth is laid out as the fourth.
+// A kind is a number: a caller may hand over any.
 pub const KINDS: usize = 5;
 
 pub const REDUCED: usize = 0;
@@ -35,13 +36,19 @@ pub struct ReducedSingle {
     pub ac: u16,
 }
 
-// Sizes, Ac and Re of each stage; 0 past the stages.
-#[derive(Clone, Copy)]
+// One stage of a staged plan.
+#[derive(Clone, Copy, PartialEq, Eq, Default)]
+pub struct Stage {
+    pub size: u16,
+    pub ac: u16,
+    pub re: u16,
+}
+
+// A plan's stages, and 0 past them. Seven places with a count: a row of a book has seven, and there is no heap.
+#[derive(Clone, Copy, PartialEq, Eq, Default)]
 pub struct StagedPlan {
-    pub stages: u8,
-    pub sizes: [u16; 7],
-    pub acs: [u16; 7],
-    pub res: [u16; 7],
+    pub count: u8,
+    pub stages: [Stage; 7],
 }
 
 // hA and hR in thousandths, g in hundred-thousandths, the last item nt and its acceptance number.
@@ -70,17 +77,16 @@ pub struct SidesPlan {
 }
 
 // What an entry is looked up by; a reduced single has no severity in its key.
-#[derive(Clone, Copy)]
+#[derive(Clone, Copy, Default)]
 pub struct Key {
     pub severity: u32,
     pub letter: u8,
     pub column: u32,
 }
 
-// What reading an entry comes to; the place is counted in numbers from the entry's start.
-#[derive(Clone, Copy)]
-pub enum Walk {
-    Ends(usize),
+// Why an entry cannot be read to its end: a number is not right, at its place from the entry's start, or is missing.
+#[derive(Clone, Copy, PartialEq, Eq, Debug)]
+pub enum Fault {
     Broken(usize),
     Short,
 }
@@ -108,41 +114,35 @@ pub fn entry_size(kind: usize, after: u16) -> usize
 pub fn size_at(kind: usize, e: &[u8]) -> usize
     ensures { (result ≡ size_of (kind_at kind) (numbers_of e.now)) × (result < 200000) }
 {
-    let after = keeping::number16(e, key_len(kind));
+    let after = numbers::number(e, key_len(kind));
     entry_size(kind, after)
 }
 
 // Is the number at place i of the entry right?
+// The place is in the entry: a type for an entry and a place would be no plainer than the fact.
 fn right_at(kind: usize, e: &[u8], i: usize) -> bool
     requires { i < length (numbers_of e.now) }
     ensures { result ≡ right (kind_at kind) (numbers_of e.now) i }
 {
-    let x = keeping::number16(e, i);
-    if ranges::fits(kind, i, x) {
-        return keeping::keeps_rule(kind, e, i, x);
-    }
-    false
+    let x = numbers::number(e, i);
+    ranges::fits(kind, i, x) && keeping::keeps_rule(kind, e, i, x)
 }
 
-// The numbers of the entry that the stretch begins with: the first that is missing or not right, or the entry's end.
-pub fn entry_numbers(kind: usize, e: &[u8]) -> Walk
+// The entry that the stretch begins with: its end, or the first of its numbers that is missing or not right.
+pub fn entry_numbers(kind: usize, e: &[u8]) -> Result<usize, Fault>
     ensures { walk_paper result ≡ entry_read kind (numbers_of e.now) }
 {
-    let after = keeping::number16(e, key_len(kind));
-    let size = entry_size(kind, after);
+    let size = size_at(kind, e);
     let whole = numbers::count(e);
-    let mut i = 0;
-    while i < size {
+    for i in 0..size {
         if whole <= i {
-            return Walk::Short;
+            return Err(Fault::Short);
         }
-        if right_at(kind, e, i) {
-            i += 1;
-        } else {
-            return Walk::Broken(i);
+        if !right_at(kind, e, i) {
+            return Err(Fault::Broken(i));
         }
     }
-    Walk::Ends(size)
+    Ok(size)
 }
 
 // Does the key of the entry that e begins with come after the key that `before` begins with?
@@ -150,22 +150,16 @@ fn rises_after(kind: usize, before: &[u8], e: &[u8]) -> bool
     requires { (kind_at kind).key ≤ length (numbers_of e.now) }
     ensures { result ≡ rises_after kind (numbers_of before.now) (numbers_of e.now) }
 {
-    let key = key_len(kind);
     let have = numbers::count(before);
-    let mut i = 0;
-    while i < key {
+    for i in 0..key_len(kind) {
         if have <= i {
             return true;
         }
         let x = numbers::number(before, i);
         let y = numbers::number(e, i);
-        if x < y {
-            return true;
+        if x != y {
+            return x < y;
         }
-        if y < x {
-            return false;
-        }
-        i += 1;
     }
     false
 }
@@ -176,21 +170,18 @@ pub fn key_falls(kind: usize, before: &[u8], e: &[u8]) -> bool
         ≡ key_falls (kind_at kind) (key_of (kind_at kind) (numbers_of before.now))
         (numbers_of e.now) }
 {
-    if numbers::count(e) < key_len(kind) {
-        return false;
-    }
-    !rises_after(kind, before, e)
+    key_len(kind) <= numbers::count(e) && !rises_after(kind, before, e)
 }
 
 // The entry that e begins with, after the entry `before`, which is empty where there is none. Each kind goes on as a
 // constant, so that the loop is compiled for it alone.
-pub fn walk_entry(kind: usize, before: &[u8], e: &[u8]) -> Walk
+pub fn walk_entry(kind: usize, before: &[u8], e: &[u8]) -> Result<usize, Fault>
     ensures { walk_paper result
         ≡ paper.entry (kind_at kind) (key_of (kind_at kind) (numbers_of before.now))
         (numbers_of e.now) }
 {
     if key_falls(kind, before, e) {
-        return Walk::Broken(0);
+        return Err(Fault::Broken(0));
     }
     match kind {
         REDUCED => entry_numbers(REDUCED, e),
@@ -200,31 +191,24 @@ pub fn walk_entry(kind: usize, before: &[u8], e: &[u8]) -> Walk
     }
 }
 
-// Are there numbers at place i and after it, and are they x and y?
-fn pair_is(e: &[u8], i: usize, x: u64, y: u64) -> bool
+// Are the numbers at place i and after it the key's letter and column?
+fn pair_is(e: &[u8], i: usize, key: Key) -> bool
     requires { i ≤ 1 }
-    ensures { result ≡ pair_is (numbers_of e.now) i x y }
+    ensures { result ≡ pair_is (numbers_of e.now) i key.letter key.column }
 {
-    if numbers::number(e, i) != x {
-        return false;
-    }
     let next = i + 1;
-    (next < numbers::count(e)) & (numbers::number(e, next) == y)
+    numbers::number(e, i) == key.letter as u16
+        && (next < numbers::count(e)) & (numbers::number(e, next) as u32 == key.column)
 }
 
 // Is the entry that e begins with under the key?
 pub fn is_under(kind: usize, key: Key, e: &[u8]) -> bool
     ensures { result ≡ same_key (key_of (kind_at kind) (numbers_of e.now)) (key_paper (kind_at kind) key) }
 {
-    let letter = key.letter as u64;
-    let column = key.column as u64;
     if kind == REDUCED {
-        return pair_is(e, 0, letter, column);
+        return pair_is(e, 0, key);
     }
-    if numbers::number(e, 0) != key.severity as u64 {
-        return false;
-    }
-    pair_is(e, 1, letter, column)
+    numbers::number(e, 0) as u32 == key.severity && pair_is(e, 1, key)
 }
 
 // The reduced single of the entry that e begins with.
@@ -232,36 +216,8 @@ pub fn reduced_at(e: &[u8]) -> ReducedSingle
     ensures { reduced_paper result ≡ reduced_of (entry_of reduced_singles (numbers_of e.now)) }
 {
     ReducedSingle {
-        n: keeping::number16(e, 2),
-        ac: keeping::number16(e, 3),
-    }
-}
-
-// Seven places, the first m of which hold every step-th number of an entry.
-fn seven_from(e: &[u8], from: usize, step: usize, m: usize) -> [u16; 7]
-    requires { (m ≤ 7) × ((step ≤ 2) × (from < 100)) }
-    ensures { result ≡ seven (every from step m (numbers_of e.now)) }
-{
-    let mut out = [0u16; 7];
-    let mut p = from;
-    let mut i = 0;
-    while i < m {
-        out[i] = keeping::number16(e, p);
-        p += step;
-        i += 1;
-    }
-    out
-}
-
-// The plan of no stages, which stands beside a refusal.
-pub fn no_stages() -> StagedPlan
-    ensures { staged_paper result ≡ no_stages }
-{
-    StagedPlan {
-        stages: 0,
-        sizes: [0u16; 7],
-        acs: [0u16; 7],
-        res: [0u16; 7],
+        n: numbers::number(e, 2),
+        ac: numbers::number(e, 3),
     }
 }
 
@@ -269,19 +225,22 @@ pub fn no_stages() -> StagedPlan
 pub fn staged_at(e: &[u8]) -> StagedPlan
     ensures { staged_paper result ≡ staged_read (entry_of staged (numbers_of e.now)) }
 {
-    let stages = keeping::number16(e, 3);
-    if 7 < stages {
-        return no_stages();
+    let count = numbers::number(e, 3);
+    if 7 < count {
+        return StagedPlan::default();
     }
-    let m = stages as usize;
-    let sizes = seven_from(e, 4, 1, m);
-    let acs = seven_from(e, 4 + m, 2, m);
-    let res = seven_from(e, 5 + m, 2, m);
+    let m = count as usize;
+    let mut stages = [Stage::default(); 7];
+    for i in 0..m {
+        stages[i] = Stage {
+            size: numbers::number(e, 4 + i),
+            ac: numbers::number(e, 4 + m + 2 * i),
+            re: numbers::number(e, 5 + m + 2 * i),
+        };
+    }
     StagedPlan {
-        stages: stages as u8,
-        sizes,
-        acs,
-        res,
+        count: count as u8,
+        stages,
     }
 }
 
@@ -290,11 +249,11 @@ pub fn sequential_at(e: &[u8]) -> SequentialPlan
     ensures { sequential_paper result ≡ sequential_of (entry_of sequential (numbers_of e.now)) }
 {
     SequentialPlan {
-        ha: keeping::number16(e, 3),
-        hr: keeping::number16(e, 4),
-        g: keeping::number16(e, 5),
-        nt: keeping::number16(e, 6),
-        at_nt: keeping::number16(e, 7),
+        ha: numbers::number(e, 3),
+        hr: numbers::number(e, 4),
+        g: numbers::number(e, 5),
+        nt: numbers::number(e, 6),
+        at_nt: numbers::number(e, 7),
     }
 }
 
@@ -303,8 +262,8 @@ pub fn variables_at(e: &[u8]) -> VariablesPlan
     ensures { variables_paper result ≡ variables_of (entry_of variables (numbers_of e.now)) }
 {
     VariablesPlan {
-        n: keeping::number16(e, 3),
-        k: keeping::number16(e, 4),
+        n: numbers::number(e, 3),
+        k: numbers::number(e, 4),
     }
 }
 
@@ -312,5 +271,5 @@ pub fn variables_at(e: &[u8]) -> VariablesPlan
 pub fn variables_holds(plan: VariablesPlan) -> bool
     ensures { result ≡ could_hold variables (variables_entry (variables_paper plan)) }
 {
-    (2 <= plan.n) & (plan.n <= 50) & ((1 <= plan.k) & (plan.k <= 4000))
+    ranges::fits(VARIABLES, 3, plan.n) & ranges::fits(VARIABLES, 4, plan.k)
 }

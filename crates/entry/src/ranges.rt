@@ -1,79 +1,31 @@
-// The ranges of an entry's numbers. Each table is a match: a constant array is built anew on the stack at each use.
-ghost use Rattle.std.specs.Prelude.{◌≡◌, get_or};
-ghost use Rattle.rules.specs.Book.{kind_at, within, anything, reduced_singles, staged, sequential, variables};
+// The ranges of an entry's numbers, by kind.
+ghost use Rattle.std.specs.Prelude.{◌≡◌, get_or, map};
+ghost use Rattle.rules.specs.Book.{kind_at, within, anything};
 ghost use Rattle.entry.specs.Paper.{range_paper};
 
 use crate::{REDUCED, SEQUENTIAL, STAGED};
 
-// The least and the most that a number of an entry may be.
-#[derive(Clone, Copy)]
-pub(crate) struct Range(u16, u16);
-
-// The ranges of a reduced entry by place: letter, column, n and Ac; past them, whatever fits.
-fn reduced_range(i: usize) -> Range
-    ensures { range_paper result ≡ get_or reduced_singles.ranges i anything }
-{
-    match i {
-        0 => Range(0, 15),
-        1 => Range(0, 25),
-        2 => Range(1, 3150),
-        3 => Range(0, 65534),
-        _ => Range(0, 65535),
-    }
-}
-
-// Of a staged entry: severity, letter, column and stages.
-fn staged_range(i: usize) -> Range
-    ensures { range_paper result ≡ get_or staged.ranges i anything }
-{
-    match i {
-        0 => Range(0, 2),
-        1 => Range(0, 15),
-        2 => Range(0, 25),
-        3 => Range(2, 7),
-        _ => Range(0, 65535),
-    }
-}
-
-// Of a sequential entry: severity, letter, column, hA, hR, g and nt.
-fn sequential_range(i: usize) -> Range
-    ensures { range_paper result ≡ get_or sequential.ranges i anything }
-{
-    match i {
-        0 => Range(0, 2),
-        1 => Range(0, 15),
-        2 => Range(0, 15),
-        3 => Range(1, 65535),
-        4 => Range(1, 65535),
-        5 => Range(1, 60000),
-        6 => Range(1, 3150),
-        _ => Range(0, 65535),
-    }
-}
-
-// Of a variables entry: severity, letter, column, n and K.
-fn variables_range(i: usize) -> Range
-    ensures { range_paper result ≡ get_or variables.ranges i anything }
-{
-    match i {
-        0 => Range(0, 2),
-        1 => Range(0, 15),
-        2 => Range(0, 15),
-        3 => Range(2, 50),
-        4 => Range(1, 4000),
-        _ => Range(0, 65535),
-    }
-}
-
-// The range of the number at place i of an entry of the kind.
-fn range_at(kind: usize, i: usize) -> Range
-    ensures { range_paper result ≡ get_or (kind_at kind).ranges i anything }
+// The least and the most that each number of an entry may be, in order; past them, whatever fits.
+fn ranges_of(kind: usize) -> &'static [(u16, u16)]
+    ensures { map range_paper result.now ≡ (kind_at kind).ranges }
 {
     match kind {
-        REDUCED => reduced_range(i),
-        STAGED => staged_range(i),
-        SEQUENTIAL => sequential_range(i),
-        _ => variables_range(i),
+        // letter, column, n and Ac
+        REDUCED => &[(0, 15), (0, 25), (1, 3150), (0, 65534)],
+        // severity, letter, column and stages
+        STAGED => &[(0, 2), (0, 15), (0, 25), (2, 7)],
+        // severity, letter, column, hA, hR, g and nt
+        SEQUENTIAL => &[
+            (0, 2),
+            (0, 15),
+            (0, 15),
+            (1, 65535),
+            (1, 65535),
+            (1, 60000),
+            (1, 3150),
+        ],
+        // severity, letter, column, n and K
+        _ => &[(0, 2), (0, 15), (0, 15), (2, 50), (1, 4000)],
     }
 }
 
@@ -81,6 +33,8 @@ fn range_at(kind: usize, i: usize) -> Range
 pub(crate) fn fits(kind: usize, i: usize, x: u16) -> bool
     ensures { result ≡ within (get_or (kind_at kind).ranges i anything) x }
 {
-    let range = range_at(kind, i);
-    (range.0 <= x) & (x <= range.1)
+    match ranges_of(kind).get(i) {
+        Some(&(low, high)) => (low..=high).contains(&x),
+        None => true,
+    }
 }

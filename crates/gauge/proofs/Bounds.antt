@@ -1,9 +1,10 @@
--- The products of the s method fit 64 bits.
+-- The products of both tests fit 64 bits.
 -- Assumes nothing.
 use Prim.Native.Nat.{ℕ, ◌*◌, ◌-◌, ◌≤◌}
 use native.Mathlib.Nat.{mul-le-mul}
 use native.Mathlib.Omega.{arith}
 
+-- of the s method
 pub record Products (n k q d tt : ℕ) : Type 0 where
   pub kk : k * k ≤ 16000000
   pub kkn : k * k * n ≤ 800000000
@@ -21,3 +22,8 @@ products n k q d tt hn hk hq hd ht =
     let f : 1000000 * d ≤ 10000000000000000 = omega arith in
     let g : n - 1 ≤ 49 = omega arith in
     record { kk = a; kkn = b; nq = e; left = mul-le-mul b e; right = mul-le-mul f g; last = mul-le-mul b ht }
+
+-- of a known spread: K · sigma, and n times that
+pub small : (n k sigma : ℕ) → n ≤ 50 → k ≤ 4000 → sigma ≤ 1000
+    → (k * sigma ≤ 4000000) × (k * sigma * n ≤ 200000000)
+small n k sigma hn hk hs = let a : k * sigma ≤ 4000000 = mul-le-mul hk hs in (a, mul-le-mul a hn)

@@ -27,6 +27,7 @@ unfolding in_float
 float-small (pos n) h = le→leb n (2 ^ 53) (omega arith)
 float-small (negsuc n) h = lt→ltb n (2 ^ 53) (omega arith)
 
+-- a natural number up to ten thousand million is an f64 ..
 pub float-nat : (n : ℕ) → n ≤ 10000000000 → T (in_float binary64 (pos n))
 float-nat n h = float-small (pos n) h
 
@@ -34,11 +35,12 @@ same : (a : ℕ) → a ≤ 10000000000 → to_z w64 a ≡ pos a
 same a h = to_z-of_z w64 (pos a) (fits-small (pos a) h)
 
 module _ (a b : ℕ) (p : a ≤ 10000000000) (q : b ≤ 10000000000) where
-  pub sub-fits : SFits w64 (to_z w64 a -ℤ to_z w64 b)
+  sub-fits : SFits w64 (to_z w64 a -ℤ to_z w64 b)
   sub-fits = rw (same a p, same b q) (fits-small _ (small a b p q))
 
-  pub back : to_z w64 (of_z w64 (to_z w64 a -ℤ to_z w64 b)) ≡ pos a -ℤ pos b
+  back : to_z w64 (of_z w64 (to_z w64 a -ℤ to_z w64 b)) ≡ pos a -ℤ pos b
   back = to_z-of_z w64 (to_z w64 a -ℤ to_z w64 b) sub-fits ∙ rw (same a p, same b q) refl
 
+  -- .. and so is the difference of two, which an i64 holds
   pub sub-float : T (in_float binary64 (to_z w64 (of_z w64 (to_z w64 a -ℤ to_z w64 b))))
   sub-float = rw back (float-small (pos a -ℤ pos b) (small a b p q))

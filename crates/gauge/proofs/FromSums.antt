@@ -1,7 +1,7 @@
 -- Either method from the sums of raised readings.
 -- Assumes nothing.
 use Prim.Native.Nat.{ℕ, ◌+◌, ◌*◌, ◌-◌, ◌≤◌}
-use mathlib.Core.Path.{◌≡◌}
+use mathlib.Core.Path.{◌≡◌, refl, sym}
 use mathlib.Core.Bool.{Bool, true, false}
 use mathlib.Core.List.{List}
 use lib.IntN.{ℤ, pos, ◌-ℤ◌}
@@ -20,11 +20,13 @@ module _ (n t : ℕ) where
   pub spread-from : (q : ℕ) → spread n (sum_from n t) (squares_from n t q) ≡ pos (n * q) -ℤ pos (t * t)
   spread-from q = as-difference (from-spread q)
 
-  pub upper-from : (u : ℕ) → margin true n (sum_from n t) (pos u -ℤ pos 1000) ≡ pos (n * u) -ℤ pos t
-  upper-from u = as-difference (upper-is n t _ (diff-of t (1000 * n)) u _ (diff-of u 1000))
+  -- .. and the margins, of a limit that is u less 1,000
+  module _ (u : ℕ) (limit : ℤ) (z : limit ≡ pos u -ℤ pos 1000) where
+    pub upper-margin : pos (n * u) -ℤ pos t ≡ margin true n (sum_from n t) limit
+    upper-margin = rw z (sym (as-difference (upper-is n t _ (diff-of t (1000 * n)) u _ (diff-of u 1000))))
 
-  pub lower-from : (u : ℕ) → margin false n (sum_from n t) (pos u -ℤ pos 1000) ≡ pos t -ℤ pos (n * u)
-  lower-from u = as-difference (lower-is n t _ (diff-of t (1000 * n)) u _ (diff-of u 1000))
+    pub lower-margin : pos t -ℤ pos (n * u) ≡ margin false n (sum_from n t) limit
+    lower-margin = rw z (sym (as-difference (lower-is n t _ (diff-of t (1000 * n)) u _ (diff-of u 1000))))
 
   pub weighed-from : (k high low q : ℕ) → low ≤ high
       → within_spread n k (pos high -ℤ pos low) (spread n (sum_from n t) (squares_from n t q))
@@ -34,13 +36,15 @@ module _ (n t : ℕ) where
 
 -- a side, from its margin: `u` is the limit plus 1,000
 module _ (m : Spread) (n k t q u : ℕ) (limit : ℤ) (z : limit ≡ pos u -ℤ pos 1000) where
+  -- that of an upper limit ..
   pub upper-side : within_by m n k (pos (n * u) -ℤ pos t) (spread n (sum_from n t) (squares_from n t q))
       ≡ side_from m true (record { n = n; k = k }) limit t q
-  upper-side = rw (z, upper-from n t u)
+  upper-side = rw (upper-margin n t u limit z) refl
 
+  -- .. and of a lower one
   pub lower-side : within_by m n k (pos t -ℤ pos (n * u)) (spread n (sum_from n t) (squares_from n t q))
       ≡ side_from m false (record { n = n; k = k }) limit t q
-  lower-side = rw (z, lower-from n t u)
+  lower-side = rw (lower-margin n t u limit z) refl
 
 -- with S and W themselves
 module _ (m : Spread) (xs : List ℤ) (t q : ℕ) where

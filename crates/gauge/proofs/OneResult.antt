@@ -1,24 +1,24 @@
--- Document 01's answer tells the code's, so the promise `shown_paper r ≡ ..` admits a single r. (That of a verdict does
--- by plans' law.)
+-- Document 01's answer tells the code's, so the promise `reason_by shown_paper r ≡ ..` admits a single r. (That of a
+-- verdict does by plans' law.)
 -- Assumes nothing.
+use Rattle.std.proofs.Common.{Option, Some, None, Result}
+use Rattle.std.specs.Float.Ieee.{Float}
 use mathlib.Core.Path.{◌≡◌, refl}
-use Rattle.rules.specs.Refusals.{Answer, refused, given}
 use Rattle.rules.specs.Screen as screens
-use Rattle.rules.proofs.Answers.{read-back}
-use Rattle.gauge.specs.declared.Shown as shown
-use Rattle.gauge.specs.Paper.{shown_paper}
+use Rattle.refusals.specs.declared.Reason.{Reason}
+use Rattle.refusals.specs.Paper.{reason_by}
+use Rattle.refusals.proofs.OneResult.{reason-one}
+use Rattle.gauge.specs.declared.Shown.{Shown}
+use Rattle.gauge.specs.Paper.{shown_as, shown_paper}
 
-display : Answer screens.Shown → shown.Shown
-display (refused n p) = shown.TheVariants.Refused n p
-display (given (screens.Shown.mean m)) = shown.TheVariants.Mean m
-display (given (screens.Shown.mean_and_variance m v)) =
-    shown.TheVariants.MeanAndVariance (record { mean = m; variance = v })
+display : screens.Shown → Shown
+display (screens.Shown.mean m) = record { mean = m; variance = None }
+display (screens.Shown.mean_and_variance m v) = record { mean = m; variance = Some v }
 
-display-back : (a : shown.Shown) → display (shown_paper a) ≡ a
+display-as : (m : Float) (v : Option Float) → display (shown_as m v) ≡ record { mean = m; variance = v }
 unfolding display
-display-back (shown.TheVariants.Refused n p) = refl
-display-back (shown.TheVariants.Mean m) = refl
-display-back (shown.TheVariants.MeanAndVariance f) = refl
+display-as m None = refl
+display-as m (Some v) = refl
 
-pub shown-one : (a b : shown.Shown) → shown_paper a ≡ shown_paper b → a ≡ b
-shown-one = read-back shown_paper display display-back
+pub shown-one : (a b : Result Shown Reason) → reason_by shown_paper a ≡ reason_by shown_paper b → a ≡ b
+shown-one = reason-one shown_paper display (λ a. display-as a.mean a.variance)

@@ -1,8 +1,9 @@
 -- One pass over the readings: what it keeps, one reading more, and each of its ends.
 -- Assumes nothing.
-use Prim.Native.Nat.{ℕ, ◌+◌, ◌*◌, ◌-◌, ◌/◌, ◌≤◌, ◌<◌}
+use Prim.Native.Nat.{ℕ, ◌+◌, ◌*◌, ◌-◌, ◌≤◌, ◌<◌}
 use mathlib.Core.Path.{◌≡◌, refl, sym, ◌∙◌, ap}
-use mathlib.Core.Bool.{true, false, ◌&&◌}
+use mathlib.Core.Bool.{false, ◌&&◌}
+use mathlib.Core.Logic.{◌⊎◌, inl, inr}
 use mathlib.Core.List.{List, [], ◌∷◌, ◌++◌}
 use native.Mathlib.Nat.{mul-le-mul}
 use native.Mathlib.Numerals.{add-one}
@@ -58,21 +59,20 @@ module _ (s : List ℕ) (n t q i v : ℕ) (p : Passing s n t q i) (there : i < n
       let h : i < length (readings_of s) = omega arith in
       p.range ∙ rw (add-one, drop-cons (readings_of s) i (pos 0) h) refl
 
-  stopped-by : in_gauge (get_or (readings_of s) i (pos 0)) ≡ false → Passed s false 0 0
-  stopped-by g =
-      record {
-        range = sym (range-next ∙ rw g refl);
-        sum = λ f. cc;
-        squares = λ f. cc;
-        small-t = omega arith;
-        small-q = omega arith;
-      }
+  stopped-by : in_gauge (get_or (readings_of s) i (pos 0)) ≡ false → all_in_gauge (readings_of s) ≡ false
+  stopped-by g = range-next ∙ rw g refl
 
-  pub stopped-below : v < 31768 → Passed s false 0 0
+  -- a reading below the gauge ends the pass ..
+  pub stopped-below : v < 31768 → all_in_gauge (readings_of s) ≡ false
   stopped-below l = stopped-by (gauge-below v 32768 here (omega arith))
 
-  pub stopped-above : 33768 < v → Passed s false 0 0
+  -- .. and so does one above it
+  pub stopped-above : 33768 < v → all_in_gauge (readings_of s) ≡ false
   stopped-above u = stopped-by (gauge-above v 32768 here (omega arith))
+
+  pub stopped : (v < 31768) ⊎ ((31768 ≤ v) × (33768 < v)) → all_in_gauge (readings_of s) ≡ false
+  stopped (inl l) = stopped-below l
+  stopped (inr u) = stopped-above u.1
 
   module _ (x y : ℕ) (l : 31768 ≤ v) (u : v ≤ 33768) (ex : x ≡ v - 31768) (ey : y ≡ x * x) where
     raised-here : Diff (get_or (readings_of s) i (pos 0)) x 1000
@@ -111,16 +111,19 @@ module _ (s : List ℕ) (n t q i v : ℕ) (p : Passing s n t q i) (there : i < n
           squares = squares-on;
         }
 
-pub passed : (s : List ℕ) (n t q i : ℕ) → Passing s n t q i → n ≤ i → Passed s true t q
+-- past the last reading the sums are those of all, and small
+pub passed : (s : List ℕ) (n t q i : ℕ) → Passing s n t q i → n ≤ i
+    → Passed s n t q × ((t ≤ 100000) × (q ≤ 200000000))
 unfolding all_in_gauge
 passed s n t q i p l =
     let g : length (readings_of s) ≤ i = omega arith in
-    let h : i ≡ length s / 2 = omega (arith, length-map (numbers_of s) signed_of, numbers-count s) in
-    let w = take_all i (readings_of s) g in
-    record {
-      range = sym (p.range ∙ rw (drop_of_length-le (readings_of s) {i = i} g) refl);
-      sum = λ f. sym (ap sum_z w) ∙ p.sum ∙ ap (λ n. sum_from n t) h;
-      squares = λ f. sym (ap squares_z w) ∙ p.squares ∙ ap (λ n. squares_from n t q) h;
-      small-t = omega arith;
-      small-q = omega arith;
-    }
+    let e : i ≡ n = omega arith in
+    let w = take_all i (readings_of s) g in (
+      record {
+        count = omega (arith, length-map (numbers_of s) signed_of, numbers-count s);
+        range = p.range ∙ rw (drop_of_length-le (readings_of s) {i = i} g) refl;
+        sum = sym (ap sum_z w) ∙ p.sum ∙ ap (λ n. sum_from n t) e;
+        squares = sym (ap squares_z w) ∙ p.squares ∙ ap (λ n. squares_from n t q) e;
+      },
+      (omega arith, omega arith),
+    )

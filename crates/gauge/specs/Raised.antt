@@ -1,5 +1,5 @@
 -- What the code counts: each reading plus 1,000, so that it is a natural number. Definitions only.
-use Rattle.std.specs.Prelude.{ℕ, ◌+◌, ◌*◌, ◌/◌, ◌≤◌, ◌≡◌, Bool, true, false, ◌&&◌, List, ℤ, pos, ◌-ℤ◌, length}
+use Rattle.std.specs.Prelude.{ℕ, ◌+◌, ◌*◌, ◌/◌, ◌≡◌, Bool, true, false, ◌&&◌, List, ℤ, pos, ◌-ℤ◌, length}
 use Rattle.rules.specs.Variables.{VariablesPlan, all_in_gauge, readings_of, sum_z, squares_z, spread, margin}
 use Rattle.rules.specs.Variables.{within_spread}
 use Rattle.rules.specs.Limits.{Spread, estimated, known, Limits, one, both, SidesPlan, side_of, within_sigma}
@@ -11,13 +11,12 @@ sum_from n t = pos t -ℤ pos (1000 * n)
 abbrev pub squares_from : ℕ → ℕ → ℕ → ℤ
 squares_from n t q = pos (q + 1000000 * n) -ℤ pos (2000 * t)
 
--- What one pass over the bytes of at most 50 readings tells: whether all are in range, and if so t and q.
-pub record Passed (bytes : List ℕ) (sound : Bool) (t q : ℕ) : Type 0 where
-  pub range : sound ≡ all_in_gauge (readings_of bytes)
-  pub sum : sound ≡ true → sum_z (readings_of bytes) ≡ sum_from (length bytes / 2) t
-  pub squares : sound ≡ true → squares_z (readings_of bytes) ≡ squares_from (length bytes / 2) t q
-  pub small-t : t ≤ 100000
-  pub small-q : q ≤ 200000000
+-- What one pass over the bytes of at most 50 readings in range tells: n, t and q.
+pub record Passed (bytes : List ℕ) (n t q : ℕ) : Type 0 where
+  pub count : n ≡ length bytes / 2
+  pub range : all_in_gauge (readings_of bytes) ≡ true
+  pub sum : sum_z (readings_of bytes) ≡ sum_from n t
+  pub squares : squares_z (readings_of bytes) ≡ squares_from n t q
 
 -- the test of a method, of a margin and of nW − S²
 abbrev pub within_by : Spread → ℕ → ℕ → ℤ → ℤ → Bool

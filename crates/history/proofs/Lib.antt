@@ -1,3 +1,2 @@
-pub mod Lending
 pub mod Listing
 pub mod OneResult

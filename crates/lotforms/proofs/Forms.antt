@@ -1,12 +1,12 @@
 -- Which form a line has, by its letter and what follows it: one law for each way out.
 -- Assumes nothing.
-use Prim.Native.Nat.{ℕ, suc}
+use Prim.Native.Nat.{ℕ, suc, ◌-◌, ◌≤◌, ◌<◌}
 use native.Mathlib.Omega.{arith}
-use mathlib.Core.Path.{◌≡◌, refl, sym}
+use mathlib.Core.Path.{◌≡◌, refl, sym, ap, ◌∙◌}
 use mathlib.Core.Bool.{Bool, true, false, cond, ◌&&◌, and-false, and-true}
 use mathlib.Core.List.{List, [], ◌∷◌}
 use lib.Dec.{leb, eqb}
-use lib.ListN.{length, get_or}
+use lib.ListN.{length, get_or, take, drop}
 use borrow.Author.Tests.{le-leb, ne_eqb}
 use Rattle.rules.specs.History.{Work}
 use Rattle.rules.specs.Log as log
@@ -17,6 +17,8 @@ use Rattle.rules.specs.Log.{permission_letter, corrective_letter}
 use Rattle.rules.specs.Feeding.{up_to}
 use Rattle.rules.proofs.LineForms.{rest_at, split-first}
 use Rattle.lotforms.specs.Reading.{fields_from, numbers_then, lot_of, order_of, lot_from, order_from}
+use Rattle.lotforms.specs.Reading.{work_with, letter_from, form_of}
+use Rattle.lotforms.proofs.Reading.{rest-of}
 
 -- a first field that is no single byte
 not-one : (w : Work) (fs : List (List ℕ)) → eqb (length (field_at fs 0)) 1 ≡ false → line_of w fs ≡ unknown_line
@@ -59,6 +61,11 @@ one-number on_yes on_no b [] = refl
 one-number on_yes on_no b (f ∷ []) = two-tests (is_number f) (leb (value_of f) 1) _ _
 one-number on_yes on_no b (f ∷ g ∷ fs) = simp (ne_eqb (suc (length (f ∷ g ∷ fs))) 2 (λ q. omega arith), both-ways)
 
+-- the fields of all of a text
+fields-all : (fields : List ℕ) → fields_from fields 0 ≡ split_at space fields
+unfolding fields_from
+fields-all fields = simp (le-leb 0 (length fields) (omega arith))
+
 -- a letter by itself, and fields after it
 lot-original : (w : Work) (fs : List (List ℕ))
     → line_of w ((original_letter ∷ []) ∷ fs) ≡ numbers_then 4 fs (lot_of false)
@@ -85,29 +92,47 @@ order-permission : (w : Work) (fs : List (List ℕ))
 unfolding line_of
 order-permission w fs = simp (and-false, and-true) (one-number 7 8 permission_letter fs)
 
--- a line by its bytes
-pub blank : (w : Work) (l : List ℕ) → length l ≡ 0 → unknown_line ≡ line_of w (split_at space l)
-unfolding line_of split_at
-blank w [] e = refl
-blank w (b ∷ bs) e = absurd (omega arith)
+-- a letter and the text after it
+module _ (r : Bool) (letter : ℕ) (fields : List ℕ) where
+  by-letter : (k known : ℕ) (give : List ℕ → log.Line)
+      → ((fs : List (List ℕ)) → line_of (work_with r) ((known ∷ []) ∷ fs) ≡ numbers_then k fs give)
+      → letter ≡ known → numbers_then k (fields_from fields 0) give ≡ letter_from r letter fields
+  by-letter k known give says q =
+      ap (λ (fs : List (List ℕ)). numbers_then k fs give) (fields-all fields)
+      ∙ sym (says (split_at space fields))
+      ∙ ap (λ (n : ℕ). letter_from r n fields) (sym q)
 
-pub corrective : (w : Work) (l : List ℕ) → length l ≡ 1 → get_or l 0 0 ≡ corrective_letter
-    → order_line 9 ≡ line_of w (split_at space l)
-unfolding line_of split_at
-corrective w [] e q = absurd (omega arith)
-corrective w (b ∷ []) e q = rw q refl
-corrective w (b ∷ x ∷ bs) e q = absurd (omega arith)
+  pub known-lot : letter ≡ original_letter → lot_from false fields ≡ letter_from r letter fields
+  known-lot = by-letter 4 original_letter (lot_of false) (lot-original (work_with r))
 
-pub alone : (w : Work) (l : List ℕ) → length l ≡ 1 → (get_or l 0 0 ≡ corrective_letter → ⊥)
-    → unknown_line ≡ line_of w (split_at space l)
-unfolding line_of split_at
-alone w [] e q = absurd (omega arith)
-alone w (b ∷ []) e q = go (eqb b space)
-  where
-    go : (t : Bool) → unknown_line ≡ line_of w (cond t ([] ∷ [] ∷ []) ((b ∷ []) ∷ []))
-    go true = refl
-    go false = sym (simp (ne_eqb b corrective_letter q))
-alone w (b ∷ x ∷ bs) e q = absurd (omega arith)
+  pub known-again : letter ≡ resubmitted_letter → r ≡ true → lot_from true fields ≡ letter_from r letter fields
+  known-again q e = by-letter 4 resubmitted_letter (lot_of true) (lot-again (work_with r) e) q
+
+  pub known-steady : letter ≡ steady_letter → order_from 5 6 fields ≡ letter_from r letter fields
+  known-steady = by-letter 1 steady_letter (order_of 5 6) (order-steady (work_with r))
+
+  pub known-permission : letter ≡ permission_letter → order_from 7 8 fields ≡ letter_from r letter fields
+  known-permission = by-letter 1 permission_letter (order_of 7 8) (order-permission (work_with r))
+
+  pub unknown-again : letter ≡ resubmitted_letter → r ≡ false → unknown_line ≡ letter_from r letter fields
+  unknown-again q e = rw q (sym (not-again (work_with r) e (split_at space fields)))
+
+  pub unlettered : (letter ≡ original_letter → ⊥) → (letter ≡ resubmitted_letter → ⊥)
+      → (letter ≡ steady_letter → ⊥)
+      → (letter ≡ permission_letter → ⊥)
+      → unknown_line ≡ letter_from r letter fields
+  unfolding line_of
+  unlettered a b c d =
+      rw (split-first space fields)
+      (sym
+      (simp (
+        ne_eqb letter original_letter a,
+        ne_eqb letter resubmitted_letter b,
+        ne_eqb letter steady_letter c,
+        ne_eqb letter permission_letter d,
+        ne_eqb (suc (suc (length (rest_at space fields)))) 1 (λ q. omega arith),
+        and-false,
+      )))
 
 longer-first : (b x : ℕ) (bs : List ℕ) → (x ≡ space → ⊥)
     → eqb (length (field_at (split_at space (b ∷ x ∷ bs)) 0)) 1 ≡ false
@@ -122,69 +147,61 @@ longer-first b x bs q =
     go true = refl
     go false = ne_eqb (suc (suc (length (up_to space bs)))) 1 (λ q. omega arith)
 
-pub unspaced : (w : Work) (l : List ℕ) → (length l ≡ 0 → ⊥) → (length l ≡ 1 → ⊥) → (get_or l 1 0 ≡ space → ⊥)
-    → unknown_line ≡ line_of w (split_at space l)
-unspaced w [] e f q = absurd (e refl)
-unspaced w (b ∷ []) e f q = absurd (f refl)
-unspaced w (b ∷ x ∷ bs) e f q = sym (not-one w (split_at space (b ∷ x ∷ bs)) (longer-first b x bs q))
+false-true : false ≡ true → ⊥
+false-true e = absurd cc
 
--- what follows a letter and a space
-fields-after : (b x : ℕ) (bs : List ℕ) → fields_from (b ∷ x ∷ bs) 2 ≡ split_at space bs
-unfolding fields_from
-fields-after b x bs = simp (le-leb 2 (suc (suc (length bs))) (omega arith))
+-- a line by its bytes
+module _ (r : Bool) where
+  pub blank : (l : List ℕ) → length l < 1 → unknown_line ≡ form_of r l
+  unfolding line_of split_at
+  blank [] e = refl
+  blank (b ∷ bs) e = absurd (omega arith)
 
-lettered : (w : Work) (letter k : ℕ) (give : List ℕ → log.Line) → eqb letter space ≡ false
-    → ((fs : List (List ℕ)) → line_of w ((letter ∷ []) ∷ fs) ≡ numbers_then k fs give)
-    → (l : List ℕ) → (length l ≡ 0 → ⊥) → (length l ≡ 1 → ⊥) → get_or l 1 0 ≡ space → get_or l 0 0 ≡ letter
-    → numbers_then k (fields_from l 2) give ≡ line_of w (split_at space l)
-unfolding split_at
-lettered w letter k give o says [] e f s q = absurd (e refl)
-lettered w letter k give o says (b ∷ []) e f s q = absurd (f refl)
-lettered w letter k give o says (b ∷ x ∷ bs) e f s q =
-    rw (fields-after b x bs, s, q, o) (sym (says (split_at space bs)))
+  pub corrective : (l : List ℕ) → 1 ≤ length l → length l < 2 → get_or l 0 0 ≡ corrective_letter
+      → order_line 9 ≡ form_of r l
+  unfolding line_of split_at
+  corrective [] e f q = absurd (omega arith)
+  corrective (b ∷ []) e f q = rw q refl
+  corrective (b ∷ x ∷ bs) e f q = absurd (omega arith)
 
-module _ (w : Work) (l : List ℕ) (e : length l ≡ 0 → ⊥) (f : length l ≡ 1 → ⊥) (s : get_or l 1 0 ≡ space) where
-  pub known-lot : get_or l 0 0 ≡ original_letter → lot_from false l 2 ≡ line_of w (split_at space l)
-  known-lot q = lettered w original_letter 4 (lot_of false) refl (lot-original w) l e f s q
+  pub alone : (l : List ℕ) → 1 ≤ length l → length l < 2 → (get_or l 0 0 ≡ corrective_letter → ⊥)
+      → unknown_line ≡ form_of r l
+  unfolding line_of split_at
+  alone [] e f q = absurd (omega arith)
+  alone (b ∷ []) e f q = go (eqb b space)
+    where
+      go : (t : Bool) → unknown_line ≡ line_of (work_with r) (cond t ([] ∷ [] ∷ []) ((b ∷ []) ∷ []))
+      go true = refl
+      go false = sym (simp (ne_eqb b corrective_letter q))
+  alone (b ∷ x ∷ bs) e f q = absurd (omega arith)
 
-  pub known-again : w.resubmission ≡ true → get_or l 0 0 ≡ resubmitted_letter
-      → lot_from true l 2 ≡ line_of w (split_at space l)
-  known-again r q = lettered w resubmitted_letter 4 (lot_of true) refl (lot-again w r) l e f s q
+  pub unspaced : (l : List ℕ) → 2 ≤ length l → (get_or l 1 0 ≡ space → ⊥) → unknown_line ≡ form_of r l
+  unspaced [] e q = absurd (omega arith)
+  unspaced (b ∷ []) e q = absurd (omega arith)
+  unspaced (b ∷ x ∷ bs) e q = sym (not-one (work_with r) (split_at space (b ∷ x ∷ bs)) (longer-first b x bs q))
 
-  pub known-steady : get_or l 0 0 ≡ steady_letter → order_from 5 6 l 2 ≡ line_of w (split_at space l)
-  known-steady q = lettered w steady_letter 1 (order_of 5 6) refl (order-steady w) l e f s q
+  pub lettered : (l : List ℕ) → 2 ≤ length l → get_or l 1 0 ≡ space
+      → letter_from r (get_or l 0 0) (take (length l - 2) (drop 2 l)) ≡ form_of r l
+  unfolding split_at
+  lettered [] e s = absurd (omega arith)
+  lettered (b ∷ []) e s = absurd (omega arith)
+  lettered (b ∷ x ∷ bs) e s = rw s (ap (letter_from r b) (rest-of (b ∷ x ∷ bs) 2) ∙ go (eqb b space) refl)
+    where
+      fs : List (List ℕ)
+      fs = split_at space bs
 
-  pub known-permission : get_or l 0 0 ≡ permission_letter → order_from 7 8 l 2 ≡ line_of w (split_at space l)
-  known-permission q = lettered w permission_letter 1 (order_of 7 8) refl (order-permission w) l e f s q
+      go : (t : Bool) → eqb b space ≡ t
+          → line_of (work_with r) ((b ∷ []) ∷ fs)
+          ≡ line_of (work_with r) (cond t ([] ∷ ([] ∷ fs)) ((b ∷ []) ∷ fs))
+      go true q =
+          sym
+          (unlettered r b bs (λ e. false-true (rw e at q)) (λ e. false-true (rw e at q))
+          (λ e. false-true (rw e at q))
+          (λ e. false-true (rw e at q)))
+          ∙ sym (not-one (work_with r) ([] ∷ ([] ∷ fs)) refl)
+      go false q = refl
 
-pub unknown-again : (w : Work) (l : List ℕ) → (length l ≡ 0 → ⊥) → (length l ≡ 1 → ⊥) → get_or l 1 0 ≡ space
-    → get_or l 0 0 ≡ resubmitted_letter → w.resubmission ≡ false → unknown_line ≡ line_of w (split_at space l)
-unfolding split_at
-unknown-again w [] e f s q r = absurd (e refl)
-unknown-again w (b ∷ []) e f s q r = absurd (f refl)
-unknown-again w (b ∷ x ∷ bs) e f s q r = rw (s, q) (sym (not-again w r (split_at space bs)))
+-- by the letter, and by the bytes before it is known
+pub ruleset letters = (known-lot, known-again, known-steady, known-permission, unknown-again, unlettered)
 
-pub unlettered : (w : Work) (l : List ℕ) → (length l ≡ 0 → ⊥) → (length l ≡ 1 → ⊥) → get_or l 1 0 ≡ space
-    → (get_or l 0 0 ≡ original_letter → ⊥) → (get_or l 0 0 ≡ resubmitted_letter → ⊥)
-    → (get_or l 0 0 ≡ steady_letter → ⊥)
-    → (get_or l 0 0 ≡ permission_letter → ⊥)
-    → unknown_line ≡ line_of w (split_at space l)
-unfolding split_at line_of
-unlettered w [] e f s a b c d = absurd (e refl)
-unlettered w (x ∷ []) e f s a b c d = absurd (f refl)
-unlettered w (x ∷ y ∷ bs) e f s a b c d = rw (s, split-first space bs) (sym (go (eqb x space)))
-  where
-    fs : List (List ℕ)
-    fs = up_to space bs ∷ rest_at space bs
-
-    go : (t : Bool) → line_of w (cond t ([] ∷ ([] ∷ fs)) ((x ∷ []) ∷ fs)) ≡ unknown_line
-    go true = not-one w ([] ∷ ([] ∷ fs)) refl
-    go false =
-        simp (
-          ne_eqb x original_letter a,
-          ne_eqb x resubmitted_letter b,
-          ne_eqb x steady_letter c,
-          ne_eqb x permission_letter d,
-          ne_eqb (suc (length fs)) 1 (λ q. omega arith),
-          and-false,
-        )
+pub ruleset lines = (blank, corrective, alone, unspaced, lettered)

@@ -4,13 +4,15 @@
 use Prim.Native.Nat.{ℕ, suc, ◌+◌, ◌*◌, ◌-◌, ◌≤◌, ◌<◌}
 use native.Mathlib.Omega.{arith}
 use native.Mathlib.Numerals.{add-one}
-use native.Mathlib.Nat.{le_trans}
+use native.Mathlib.Nat.{le_trans, add_comm}
 use mathlib.Core.Path.{◌≡◌, refl, sym, ap, ◌∙◌}
-use mathlib.Core.Bool.{Bool, true, false, cond, ◌||◌, not, and-false, or-true}
+use mathlib.Core.Bool.{Bool, true, false, cond, ◌&&◌, ◌||◌, not, and-false, or-true}
+use Rattle.std.proofs.Common.{take, nat_eq}
+use Rattle.std.specs.List.{position_or_len, position}
 use mathlib.Core.List.{List, [], ◌∷◌}
-use lib.Dec.{leb, eqb}
+use lib.Dec.{leb, ltb, eqb}
 use lib.ListN.{length, get_or, drop, length-drop, drop_of_length-le}
-use lib.Seq.{drop-cons, get_or-drop, drop-drop}
+use lib.Seq.{drop-drop, take-length, take_all}
 use borrow.Author.Tests.{le-leb, lt-leb, eq-eqb, ne_eqb}
 use Rattle.rules.specs.Log as log
 use Rattle.rules.specs.Log.{split_at, space, is_digit, all_digits, value_from, value_of, largest_number, is_number}
@@ -18,20 +20,12 @@ use Rattle.rules.specs.Log.{digit_zero, digit_nine, order_line, unknown_line}
 use Rattle.rules.specs.Feeding.{up_to}
 use Rattle.rules.proofs.Bounded.{by-le}
 use Rattle.rules.proofs.LineForms.{rest_at, split-first}
-use Rattle.lotforms.specs.Reading.{up_to_from, field_from, Digits, fields_from, numbers_then, order_of}
-use Rattle.lotforms.specs.declared.Field.{Field}
-use Rattle.lotforms.specs.declared.Field.TheVariants.{Number, Other}
+use Rattle.std.proofs.Common.{Option, Some, None, unwrap_or}
+use Rattle.std.proofs.lemmas.List.{drop_more}
+use Rattle.lotforms.specs.Reading.{up_to_from, value_in, number_in, then_at, field_from, fields_from, numbers_then}
+use Rattle.lotforms.specs.Reading.{order_of}
 
 -- a field's test
-no-digits : (f : List ℕ) → all_digits f ≡ false → is_number f ≡ false
-unfolding is_number
-no-digits f e = rw e (and-false (not (eqb (length f) 0)))
-
-over-largest : (f : List ℕ) → largest_number < value_of f → is_number f ≡ false
-unfolding is_number
-over-largest f h =
-    simp (lt-leb (value_of f) largest_number h, and-false)
-
 no-bytes : (f : List ℕ) → length f ≡ 0 → is_number f ≡ false
 unfolding is_number
 no-bytes f e = simp (eq-eqb (length f) 0 e)
@@ -40,13 +34,7 @@ zero-led : (f : List ℕ) → 1 < length f → get_or f 0 0 ≡ digit_zero → i
 unfolding is_number
 zero-led f h e = simp (ne_eqb (length f) 1 (λ q. omega arith), eq-eqb (get_or f 0 0) digit_zero e, and-false)
 
-is-number : (f : List ℕ) → 0 < length f → all_digits f ≡ true
-    → eqb (length f) 1 || not (eqb (get_or f 0 0) digit_zero) ≡ true
-    → value_of f ≤ largest_number → is_number f ≡ true
-unfolding is_number
-is-number f h d z v = simp (ne_eqb (length f) 0 (λ q. omega arith), d, z, le-leb (value_of f) largest_number v)
-
-up-to-length : (x : ℕ) (l : List ℕ) → length (up_to x l) ≤ length l
+pub up-to-length : (x : ℕ) (l : List ℕ) → length (up_to x l) ≤ length l
 unfolding up_to
 up-to-length x [] = omega arith
 up-to-length x (b ∷ bs) = go (eqb b x) (up-to-length x bs)
@@ -55,154 +43,148 @@ up-to-length x (b ∷ bs) = go (eqb b x) (up-to-length x bs)
     go true h = omega arith
     go false h = omega arith
 
-up-to-first : (x : ℕ) (l : List ℕ) → 0 < length (up_to x l) → get_or (up_to x l) 0 0 ≡ get_or l 0 0
-unfolding up_to
-up-to-first x [] h = refl
-up-to-first x (b ∷ bs) h = go (eqb b x) h
-  where
-    go : (t : Bool) → 0 < length (cond t [] (b ∷ up_to x bs)) → get_or (cond t [] (b ∷ up_to x bs)) 0 0 ≡ b
-    go true h = absurd (omega arith)
-    go false h = refl
-
-module _ (line : List ℕ) (i : ℕ) where
-  pub within : length (up_to_from line i) ≤ length line - i
-  within = omega (arith, up-to-length space (drop i line), length-drop i line)
-
-  pub first-byte : 0 < length (up_to_from line i) → get_or (up_to_from line i) 0 0 ≡ get_or line i 0
-  first-byte h =
-      up-to-first space (drop i line) h ∙ get_or-drop i line 0 0 ∙ ap (λ (k : ℕ). get_or line k 0) (omega arith)
-
-  pub at-end : length line ≤ i → up_to_from line i ≡ []
-  unfolding up_to
-  at-end h = rw (drop_of_length-le line h)
-
-  pub at-space : i < length line → get_or line i 0 ≡ space → up_to_from line i ≡ []
-  unfolding up_to
-  at-space h e = rw (drop-cons line i 0 h) (simp (eq-eqb (get_or line i 0) space e))
-
-  pub at-byte : i < length line → (get_or line i 0 ≡ space → ⊥)
-      → up_to_from line i ≡ get_or line i 0 ∷ up_to_from line (i + 1)
-  unfolding up_to
-  at-byte h e = rw (drop-cons line i 0 h, add-one i) (simp (ne_eqb (get_or line i 0) space e))
-
--- what a field read as far as place i leaves to be read
-pub record Reads (line : List ℕ) (from i value : ℕ) : Type 0 where
-  pub goes : from + length (up_to_from line from) ≡ i + length (up_to_from line i)
-  pub digits : all_digits (up_to_from line from) ≡ all_digits (up_to_from line i)
-  pub worth : value_of (up_to_from line from) ≡ value_from value (up_to_from line i)
+-- what digits read as far as place i leave to be read
+pub record Reads (digits : List ℕ) (i value : ℕ) : Type 0 where
+  pub legal : all_digits digits ≡ all_digits (drop i digits)
+  pub worth : value_of digits ≡ value_from value (drop i digits)
   pub fits : value ≤ largest_number
-
-pub reads-first : (line : List ℕ) (from : ℕ) → Reads line from from 0
-reads-first line from = record { goes = refl; digits = refl; worth = refl; fits = omega arith }
 
 value-least : (v : ℕ) (bs : List ℕ) → v ≤ value_from v bs
 unfolding value_from
 value-least v [] = omega arith
 value-least v (b ∷ bs) = le_trans (omega arith) (value-least (10 * v + (b - digit_zero)) bs)
 
-reads-whole : {line : List ℕ} {from i value : ℕ} → Reads line from i value → up_to_from line i ≡ []
-    → Digits line from i value
-unfolding all_digits value_from
-reads-whole {line} {from} {i} {value} r e =
-    record {
-      goes = omega (arith, r.goes, ap length e);
-      digits = r.digits ∙ ap all_digits e;
-      worth = r.worth ∙ ap (value_from value) e;
-      fits = r.fits;
-    }
+no-value : (digits : List ℕ) → all_digits digits && leb (value_of digits) largest_number ≡ false
+    → None ≡ value_in digits
+unfolding value_in
+no-value digits e = rw e refl
 
-module _ {line : List ℕ} {from i value : ℕ} (r : Reads line from i value) where
-  pub reads-space : i < length line → get_or line i 0 ≡ space → Digits line from i value
-  reads-space h e = reads-whole r (at-space line i h e)
-
-  pub reads-end : length line ≤ i → Digits line from i value
-  reads-end h = reads-whole r (at-end line i h)
-
-  other : is_number (up_to_from line from) ≡ false → Other ≡ field_from line from
-  unfolding field_from
-  other e = rw e refl
-
-  bad-byte : i < length line → (get_or line i 0 ≡ space → ⊥) → is_digit (get_or line i 0) ≡ false
-      → Other ≡ field_from line from
-  unfolding all_digits
-  bad-byte h s e =
-      other (no-digits (up_to_from line from) (r.digits ∙ ap all_digits (at-byte line i h s) ∙ rw e refl))
-
-  pub reads-low : i < length line → (get_or line i 0 ≡ space → ⊥) → get_or line i 0 < digit_zero
-      → Other ≡ field_from line from
-  reads-low h s l = bad-byte h s (simp (lt-leb digit_zero (get_or line i 0) l))
-
-  pub reads-high : i < length line → (get_or line i 0 ≡ space → ⊥) → digit_nine < get_or line i 0
-      → Other ≡ field_from line from
-  reads-high h s l = bad-byte h s (simp (lt-leb (get_or line i 0) digit_nine l, and-false))
-
-  value-after : i < length line → (get_or line i 0 ≡ space → ⊥)
-      → value_of (up_to_from line from) ≡ value_from (10 * value + (get_or line i 0 - digit_zero))
-      (up_to_from line (i + 1))
+module _ {digits : List ℕ} {i value : ℕ} (r : Reads digits i value) (h : i < length digits) where
+  value-after : value_of digits ≡ value_from (value * 10 + (get_or digits i 0 - digit_zero)) (drop (i + 1) digits)
   unfolding value_from
-  value-after h s = r.worth ∙ ap (value_from value) (at-byte line i h s)
+  value-after =
+      r.worth
+      ∙ ap (value_from value) (drop_more digits i 0 h)
+      ∙ ap (λ (n : ℕ). value_from (n + (get_or digits i 0 - digit_zero)) (drop (i + 1) digits)) (omega arith)
 
-  pub reads-over : i < length line → (get_or line i 0 ≡ space → ⊥)
-      → largest_number < 10 * value + (get_or line i 0 - digit_zero) → Other ≡ field_from line from
-  reads-over h s o =
-      other
-      (over-largest (up_to_from line from)
-      (rw (value-after h s)
-      (omega (arith, value-least (10 * value + (get_or line i 0 - digit_zero)) (up_to_from line (i + 1))))))
-
-  pub reads-more : i < length line → (get_or line i 0 ≡ space → ⊥) → digit_zero ≤ get_or line i 0
-      → get_or line i 0 ≤ digit_nine
-      → 10 * value + (get_or line i 0 - digit_zero) ≤ largest_number
-      → Reads line from (i + 1) (10 * value + (get_or line i 0 - digit_zero))
+  pub other-byte : is_digit (get_or digits i 0) ≡ false → None ≡ value_in digits
   unfolding all_digits
-  reads-more h s low high fits =
+  other-byte e =
+      let illegal : all_digits digits ≡ false = r.legal ∙ ap all_digits (drop_more digits i 0 h) ∙ rw e refl in
+      no-value digits (rw illegal refl)
+
+  pub too-large : (value * 10 + (get_or digits i 0 - digit_zero) ≤ largest_number → ⊥) → None ≡ value_in digits
+  too-large o =
+      no-value digits
+      (simp
+      (lt-leb (value_of digits) largest_number
+      (omega (
+        arith,
+        value-after,
+        value-least (value * 10 + (get_or digits i 0 - digit_zero)) (drop (i + 1) digits),
+      )))
+      (and-false (all_digits digits)))
+
+  pub reads-more : {next : ℕ} → is_digit (get_or digits i 0) ≡ true
+      → next ≡ value * 10 + (get_or digits i 0 - digit_zero) → next ≤ largest_number → Reads digits (i + 1) next
+  unfolding all_digits
+  reads-more e n f =
       record {
-        goes = omega (arith, r.goes, ap length (at-byte line i h s));
-        digits =
-            r.digits ∙ ap all_digits (at-byte line i h s)
-            ∙ simp (le-leb digit_zero (get_or line i 0) low, le-leb (get_or line i 0) digit_nine high);
-        worth = value-after h s;
-        fits = fits;
+        legal = r.legal ∙ ap all_digits (drop_more digits i 0 h) ∙ rw e refl;
+        worth = value-after ∙ ap (λ (v : ℕ). value_from v (drop (i + 1) digits)) (sym n);
+        fits = f;
       }
 
--- the ways out of a field whose bytes are digits
-module _ {line : List ℕ} {from end value : ℕ} (d : Digits line from end value) where
-  pub digits-none : end ≤ from → Other ≡ field_from line from
+pub reads-whole : {digits : List ℕ} {i value : ℕ} → Reads digits i value → length digits ≤ i
+    → Some value ≡ value_in digits
+unfolding value_in all_digits value_from
+reads-whole {digits} {i} {value} r e =
+    let worth : value_of digits ≡ value = r.worth ∙ ap (value_from value) (drop_of_length-le digits e) in
+    let all : all_digits digits ≡ true = r.legal ∙ ap all_digits (drop_of_length-le digits e) in
+    rw (worth, all, le-leb value largest_number r.fits) refl
+
+pub ruleset digits = (other-byte, too-large, reads-whole)
+
+-- which runs of digits are numbers
+no-number : (field : List ℕ) → is_number field ≡ false → None ≡ number_in field
+unfolding number_in
+no-number field e = rw e refl
+
+pub empty-field : (field : List ℕ) → length field < 1 → None ≡ number_in field
+empty-field field e = no-number field (no-bytes field (omega arith))
+
+pub zero-first : (field : List ℕ) → 2 ≤ length field → get_or field 0 0 ≡ digit_zero → None ≡ number_in field
+zero-first field h e = no-number field (zero-led field (omega arith) e)
+
+pub not-zero-led : (field : List ℕ) → 1 ≤ length field → (2 ≤ length field → get_or field 0 0 ≡ digit_zero → ⊥)
+    → value_in field ≡ number_in field
+unfolding value_in number_in is_number
+not-zero-led field h z =
+    simp (ne_eqb (length field) 0 (λ q. omega arith), single)
+  where
+    single : eqb (length field) 1 || not (eqb (get_or field 0 0) digit_zero) ≡ true
+    single =
+        by-le (length field) 1 (λ e. simp (eq-eqb (length field) 1 (omega arith)))
+        (λ e. simp (ne_eqb (get_or field 0 0) digit_zero (z (omega arith))) (or-true (eqb (length field) 1)))
+
+-- the bytes before a separator
+pub up-to-take : (x : ℕ) (l : List ℕ) → take (position_or_len (λ b. nat_eq b x) l) l ≡ up_to x l
+unfolding up_to
+up-to-take x [] = refl
+up-to-take x (b ∷ bs) = go (eqb b x) (up-to-take x bs)
+  where
+    p : ℕ
+    p = position_or_len (λ y. nat_eq y x) bs
+
+    go : (t : Bool) → take p bs ≡ up_to x bs → take (cond (not t) (1 + p) 0) (b ∷ bs) ≡ cond t [] (b ∷ up_to x bs)
+    go true h = refl
+    go false h =
+        ap (λ (n : ℕ). take n (b ∷ bs)) (add_comm 1 p ∙ add-one p) ∙ ap (λ (ys : List ℕ). b ∷ ys) h
+
+-- what is left of a list from a place on
+pub rest-of : (l : List ℕ) (i : ℕ) → take (length l - i) (drop i l) ≡ drop i l
+rest-of l i = ap (λ (n : ℕ). take n (drop i l)) (sym (length-drop i l)) ∙ take-length (drop i l)
+
+pub up-to-found : (x : ℕ) (l : List ℕ) (found : Option ℕ)
+    → found ≡ position (λ b. nat_eq b x) l
+    → take (unwrap_or found (length l)) l ≡ up_to x l
+up-to-found x l found e =
+    ap (λ (o : Option ℕ). take (unwrap_or o (length l)) l) e ∙ go
+  where
+    p : ℕ
+    p = position_or_len (λ b. nat_eq b x) l
+
+    go : take (unwrap_or (cond (ltb p (length l)) (Some p) None) (length l)) l ≡ up_to x l
+    go =
+        by-le (suc p) (length l) (λ h. simp (le-leb (suc p) (length l) h) (up-to-take x l))
+        (λ h. simp (lt-leb (suc p) (length l) h)
+        (take-length l ∙ sym (take_all p l (omega arith)) ∙ up-to-take x l))
+
+module _ (line : List ℕ) (i : ℕ) where
+  pub within : length (up_to_from line i) ≤ length line - i
+  within = omega (arith, up-to-length space (drop i line), length-drop i line)
+
+-- the field that starts at a place
+module _ (line : List ℕ) (from : ℕ) where
+  pub past-end : length line < from → None ≡ field_from line from
   unfolding field_from
-  digits-none h = rw (no-bytes (up_to_from line from) (omega (arith, d.goes))) refl
+  past-end h =
+      rw (← no-number (up_to_from line from) (no-bytes (up_to_from line from) (omega (arith, within line from)))) refl
 
-  pub digits-within : from < end → end ≤ length line
-  digits-within h = omega (arith, d.goes, within line from)
+  module _ (rest field : List ℕ) (r : rest ≡ take (length line - from) (drop from line))
+      (f : field ≡ up_to space rest) where
+    field-at : field ≡ up_to_from line from
+    field-at = f ∙ ap (up_to space) (r ∙ rest-of line from)
 
-  pub digits-led : from + 1 < end → get_or line from 0 ≡ digit_zero → Other ≡ field_from line from
-  unfolding field_from
-  digits-led h e =
-      rw
-      (zero-led (up_to_from line from) (omega (arith, d.goes))
-      (first-byte line from (omega (arith, d.goes)) ∙ e))
-      refl
+    pub no-number-at : None ≡ number_in field → None ≡ field_from line from
+    unfolding field_from
+    no-number-at e = rw (← field-at, ← e) refl
 
-  given-number : from < end
-      → eqb (length (up_to_from line from)) 1 || not (eqb (get_or (up_to_from line from) 0 0) digit_zero) ≡ true
-      → Number value (end + 1) ≡ field_from line from
-  unfolding field_from
-  given-number h z =
-      rw
-      (is-number (up_to_from line from) (omega (arith, d.goes)) d.digits z
-      (rw d.worth d.fits))
-      (rw (d.worth, ← d.goes) refl)
+    pub number-at : (v : ℕ) → Some v ≡ number_in field → Some (v, from + length field + 1) ≡ field_from line from
+    unfolding field_from
+    number-at v e = rw (← field-at, ← e) refl
 
-  pub digits-single : from < end → end ≤ from + 1 → Number value (end + 1) ≡ field_from line from
-  digits-single h s =
-      given-number h (simp (eq-eqb (length (up_to_from line from)) 1 (omega (arith, d.goes))))
-
-  pub digits-many : from < end → (get_or line from 0 ≡ digit_zero → ⊥) → Number value (end + 1) ≡ field_from line from
-  digits-many h z =
-      given-number h
-      (simp
-      (ne_eqb (get_or (up_to_from line from) 0 0) digit_zero
-      (λ q. z (sym (first-byte line from (omega (arith, d.goes))) ∙ q)))
-      (or-true (eqb (length (up_to_from line from)) 1)))
+pub ruleset fields = (past-end, no-number-at, number-at)
 
 -- from field to field
 rest-none : (x : ℕ) (l : List ℕ) → length l ≤ length (up_to x l) → rest_at x l ≡ []
@@ -258,16 +240,20 @@ fields-none : (line : List ℕ) (i : ℕ) → length line < i → fields_from li
 unfolding fields_from
 fields-none line i h = simp (lt-leb i (length line) h)
 
+pair-of : Option (ℕ × ℕ) → ℕ × ℕ
+pair-of (Some p) = p
+pair-of None = (0, 0)
+
 module _ (line : List ℕ) (i k : ℕ) (give : List ℕ → log.Line) where
-  number-stop : field_from line i ≡ Other → numbers_then (suc k) (fields_from line i) give ≡ unknown_line
-  unfolding numbers_then field_from
+  number-stop : field_from line i ≡ None → numbers_then (suc k) (fields_from line i) give ≡ unknown_line
+  unfolding numbers_then field_from number_in
   number-stop e =
       by-le i (length line)
       (λ h. rw (fields-next line i h) (go (is_number (up_to_from line i)) e))
       (λ h. rw (fields-none line i h) refl)
     where
       go : (t : Bool)
-          → cond t (Number (value_of (up_to_from line i)) (i + length (up_to_from line i) + 1)) Other ≡ Other
+          → then_at (i + length (up_to_from line i) + 1) (cond t (Some (value_of (up_to_from line i))) None) ≡ None
           → cond t
           (numbers_then k (fields_from line (i + length (up_to_from line i) + 1))
           (λ vs. give (value_of (up_to_from line i) ∷ vs)))
@@ -276,31 +262,32 @@ module _ (line : List ℕ) (i k : ℕ) (give : List ℕ → log.Line) where
       go true q = let z : ◌≡◌ {A = ℕ} 0 1 = cc in absurd (omega arith)
       go false q = refl
 
-  number_step : {v next : ℕ} → field_from line i ≡ Number v next
+  number_step : {v next : ℕ} → field_from line i ≡ Some (v, next)
       → numbers_then (suc k) (fields_from line i) give ≡ numbers_then k (fields_from line next) (λ vs. give (v ∷ vs))
-  unfolding numbers_then field_from
+  unfolding numbers_then field_from number_in pair-of
   number_step {v} {next} e =
       by-le i (length line)
       (λ h. rw (fields-next line i h) (go (is_number (up_to_from line i)) e))
       (λ h. absurd (past h))
     where
       go : (t : Bool)
-          → cond t (Number (value_of (up_to_from line i)) (i + length (up_to_from line i) + 1)) Other ≡ Number v next
+          → then_at (i + length (up_to_from line i) + 1) (cond t (Some (value_of (up_to_from line i))) None)
+          ≡ Some (v, next)
           → cond t
           (numbers_then k (fields_from line (i + length (up_to_from line i) + 1))
           (λ vs. give (value_of (up_to_from line i) ∷ vs)))
           unknown_line
           ≡ numbers_then k (fields_from line next) (λ vs. give (v ∷ vs))
       go true q =
-          let a : value_of (up_to_from line i) ≡ v = cc in
-          let b : i + length (up_to_from line i) + 1 ≡ next = cc in
+          let a : value_of (up_to_from line i) ≡ v = ap (λ (o : Option (ℕ × ℕ)). (pair-of o).0) q in
+          let b : i + length (up_to_from line i) + 1 ≡ next = ap (λ (o : Option (ℕ × ℕ)). (pair-of o).1) q in
           rw (a, b) refl
       go false q = let z : ◌≡◌ {A = ℕ} 0 1 = cc in absurd (omega arith)
 
       past : length line < i → ⊥
       past h =
           let f = no-bytes (up_to_from line i) (omega (arith, within line i)) in
-          let q : Other ≡ Number v next = rw f at e in
+          let q : ◌≡◌ {A = Option (ℕ × ℕ)} None (Some (v, next)) = rw f at e in
           let z : ◌≡◌ {A = ℕ} 0 1 = cc in
           omega arith
 
@@ -314,11 +301,12 @@ module _ (line : List ℕ) (i : ℕ) (give : List ℕ → log.Line) where
   number-done h = rw (fields-none line i h) refl
 
 -- the ways out of reading the numbers after a letter
-module _ (line : List ℕ) (from k : ℕ) (give : List ℕ → log.Line) {read : Field} (e : read ≡ field_from line from) where
-  pub first-other : read ≡ Other → unknown_line ≡ numbers_then (suc k) (fields_from line from) give
+module _ (line : List ℕ) (from k : ℕ) (give : List ℕ → log.Line) {read : Option (ℕ × ℕ)}
+    (e : read ≡ field_from line from) where
+  pub first-other : read ≡ None → unknown_line ≡ numbers_then (suc k) (fields_from line from) give
   first-other f = sym (number-stop line from k give (sym e ∙ f))
 
-  pub then-known : {v next : ℕ} {l : log.Line} → read ≡ Number v next
+  pub then-known : {v next : ℕ} {l : log.Line} → read ≡ Some (v, next)
       → l ≡ numbers_then k (fields_from line next) (λ vs. give (v ∷ vs))
       → l ≡ numbers_then (suc k) (fields_from line from) give
   then-known f h = h ∙ sym (number_step line from k give (sym e ∙ f))

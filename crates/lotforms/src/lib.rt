@@ -1,154 +1,152 @@
 #![tactic(auto)]
 
 // What a line of the input says: its letter, and the numbers after it.
-ghost use Rattle.std.specs.Prelude.{◌≡◌};
-ghost use Rattle.lotforms.specs.Reading.{Digits, field_from, lot_from, order_from, line_paper, form_of};
+ghost use Rattle.std.specs.Prelude.{ℕ, ◌≡◌};
+ghost use Rattle.rules.specs.History.{byte_of};
+ghost use Rattle.rules.specs.Feeding.{up_to};
+ghost use Rattle.lotforms.specs.Reading.{value_in, number_in, field_from, lot_from, order_from};
+ghost use Rattle.lotforms.specs.Reading.{letter_from, order_paper, said, line_paper, form_of};
 
-// The history bytes of the orders.
-const STEADY: u32 = 5;
+// An order, with its yes or no.
+#[derive(Clone, Copy, Debug, PartialEq, Eq)]
+pub enum Order {
+    Steady(bool),
+    Permission(bool),
+    Corrective,
+}
 
-const NOT_STEADY: u32 = 6;
+impl Order {
+    // The byte of a history that stands for it: the rules say an order by its byte.
+    pub fn byte(self) -> u32
+        ensures { result ≡ byte_of (order_paper self) }
+    {
+        match self {
+            Order::Steady(true) => 5,
+            Order::Steady(false) => 6,
+            Order::Permission(true) => 7,
+            Order::Permission(false) => 8,
+            Order::Corrective => 9,
+        }
+    }
+}
 
-const PERMISSION: u32 = 7;
-
-const WITHDRAWN: u32 = 8;
-
-const CORRECTIVE: u32 = 9;
-
-// The largest number.
-const LARGEST: u64 = 4294967295;
-
-// What a line says.
-#[derive(Clone, Copy)]
+// What a line says: a lot with its total, or an order.
+#[derive(Clone, Copy, Debug, PartialEq, Eq)]
 pub enum Line {
-    // a lot: whether it is resubmitted, its size, level, column and total
-    Lot(bool, u32, u32, u32, u32),
-    // the history byte of an order
-    Order(u32),
-    Unknown,
+    Lot {
+        again: bool,
+        size: u32,
+        level: u32,
+        column: u32,
+        total: u32,
+    },
+    Order(Order),
 }
 
-// A field that is a number, and where the next field starts; or another one.
-#[derive(Clone, Copy)]
-enum Field {
-    Number(u32, usize),
-    Other,
+// The bytes before the first separator, all where there is none.
+pub fn up_to(separator: u8, bytes: &[u8]) -> &[u8]
+    ensures { result.now ≡ up_to separator bytes.now }
+{
+    let end = bytes
+        .iter()
+        .position(|b| *b == separator)
+        .unwrap_or(bytes.len());
+    &bytes[..end]
 }
 
-// The field that goes from one place to another, where all its bytes are digits of a value that fits.
-fn close_field(line: &[u8], from: usize, end: usize, value: u64) -> Field
-    requires { Digits line.now from end value }
+// What a run of digits is worth, where that fits.
+#[tactic(auto, using(crate::proofs::Reading::digits))]
+fn value(digits: &[u8]) -> Option<u32>
+    ensures { result ≡ value_in digits.now }
+{
+    let mut value: u32 = 0;
+    for b in digits {
+        if !b.is_ascii_digit() {
+            return None;
+        }
+        value = value.checked_mul(10)?.checked_add(u32::from(*b - b'0'))?;
+    }
+    Some(value)
+}
+
+// "Numbers are decimal without leading zeros, each at most 4,294,967,295"
+fn number(field: &[u8]) -> Option<u32>
+    ensures { result ≡ number_in field.now }
+{
+    let first = field.first()?;
+    if *first == b'0' && field.len() > 1 {
+        return None;
+    }
+    value(field)
+}
+
+// The number in the field that starts at a place, and where the next field starts.
+#[tactic(auto, using(crate::proofs::Reading::fields))]
+fn number_at(line: &[u8], from: usize) -> Option<(u32, usize)>
     ensures { result ≡ field_from line.now from }
 {
-    if end <= from {
-        return Field::Other;
-    }
-    if from + 1 < end {
-        if line[from] == b'0' {
-            return Field::Other;
-        }
-    }
-    Field::Number(value as u32, end + 1)
+    let field = up_to(b' ', line.get(from..)?);
+    Some((number(field)?, from + field.len() + 1))
 }
 
-// "Numbers are decimal without leading zeros, each at most 4,294,967,295": the field that starts at a place.
-fn number(line: &[u8], from: usize) -> Field
-    ensures { result ≡ field_from line.now from }
+// "L or R (original, resubmitted), size, level, column, total": the fields after the letter. By places and no iterator:
+// a line ends with its last field, which the place after it shows.
+fn lot_line(again: bool, fields: &[u8]) -> Option<Line>
+    ensures { line_paper result ≡ lot_from again fields.now }
 {
-    let mut value: u64 = 0;
-    let mut i = from;
-    while i < line.len() {
-        let b = line[i];
-        if b == b' ' {
-            return close_field(line, from, i, value);
-        }
-        if b < b'0' {
-            return Field::Other;
-        }
-        if b'9' < b {
-            return Field::Other;
-        }
-        value = 10 * value + (b - b'0') as u64;
-        if LARGEST < value {
-            return Field::Other;
-        }
-        i += 1;
+    let (size, second) = number_at(fields, 0)?;
+    let (level, third) = number_at(fields, second)?;
+    let (column, fourth) = number_at(fields, third)?;
+    let (total, end) = number_at(fields, fourth)?;
+    if end <= fields.len() {
+        return None;
     }
-    close_field(line, from, i, value)
-}
-
-// "L or R (original, resubmitted), size, level, column, total": the fields after the letter.
-fn lot_line(again: bool, line: &[u8]) -> Line
-    ensures { line_paper result ≡ lot_from again line.now 2 }
-{
-    let Field::Number(size, second) = number(line, 2) else {
-        return Line::Unknown;
-    };
-    let Field::Number(level, third) = number(line, second) else {
-        return Line::Unknown;
-    };
-    let Field::Number(column, fourth) = number(line, third) else {
-        return Line::Unknown;
-    };
-    let Field::Number(total, end) = number(line, fourth) else {
-        return Line::Unknown;
-    };
-    if end <= line.len() {
-        return Line::Unknown;
-    }
-    Line::Lot(again, size, level, column, total)
+    Some(Line::Lot {
+        again,
+        size,
+        level,
+        column,
+        total,
+    })
 }
 
 // "S (steady) and P (permission), each with 0 for no or 1 for yes": the field after the letter.
-fn order_line(on_yes: u32, on_no: u32, line: &[u8]) -> Line
-    ensures { line_paper result ≡ order_from on_yes on_no line.now 2 }
+fn yes_or_no(fields: &[u8]) -> Option<bool>
+    ensures { (on_yes on_no : ℕ) → said on_yes on_no result ≡ order_from on_yes on_no fields.now }
 {
-    let Field::Number(value, last) = number(line, 2) else {
-        return Line::Unknown;
-    };
-    if last <= line.len() {
-        return Line::Unknown;
+    let (value, end) = number_at(fields, 0)?;
+    if end <= fields.len() {
+        return None;
     }
-    if value == 1 {
-        return Line::Order(on_yes);
+    match value {
+        0 => Some(false),
+        1 => Some(true),
+        _ => None,
     }
-    if value == 0 {
-        return Line::Order(on_no);
-    }
-    Line::Unknown
 }
 
-// A line by its letter, for a work that knows resubmitted lots or does not.
-pub fn line_of(resubmission: bool, line: &[u8]) -> Line
+// A letter and the fields after it, for a work that knows resubmitted lots or does not.
+#[tactic(auto, using(crate::proofs::Forms::letters))]
+fn letter_line(resubmission: bool, letter: u8, fields: &[u8]) -> Option<Line>
+    ensures { line_paper result ≡ letter_from resubmission letter fields.now }
+{
+    match letter {
+        b'L' => lot_line(false, fields),
+        b'R' if resubmission => lot_line(true, fields),
+        b'S' => Some(Line::Order(Order::Steady(yes_or_no(fields)?))),
+        b'P' => Some(Line::Order(Order::Permission(yes_or_no(fields)?))),
+        _ => None,
+    }
+}
+
+// What a line says, where it has a known form.
+#[tactic(auto, using(crate::proofs::Forms::lines))]
+pub fn line_of(resubmission: bool, line: &[u8]) -> Option<Line>
     ensures { line_paper result ≡ form_of resubmission line.now }
 {
-    if line.len() == 0 {
-        return Line::Unknown;
+    match line {
+        [letter] if *letter == b'C' => Some(Line::Order(Order::Corrective)),
+        [letter, gap, fields @ ..] if *gap == b' ' => letter_line(resubmission, *letter, fields),
+        _ => None,
     }
-    let letter = line[0];
-    if line.len() == 1 {
-        if letter == b'C' {
-            return Line::Order(CORRECTIVE);
-        }
-        return Line::Unknown;
-    }
-    if line[1] != b' ' {
-        return Line::Unknown;
-    }
-    if letter == b'L' {
-        return lot_line(false, line);
-    }
-    if letter == b'R' {
-        if resubmission {
-            return lot_line(true, line);
-        }
-        return Line::Unknown;
-    }
-    if letter == b'S' {
-        return order_line(STEADY, NOT_STEADY, line);
-    }
-    if letter == b'P' {
-        return order_line(PERMISSION, WITHDRAWN, line);
-    }
-    Line::Unknown
 }

@@ -1,4 +1,3 @@
 pub mod Keeping
-pub mod Logging
 pub mod Feeding
 pub mod OneResult

@@ -2,20 +2,17 @@
 -- Assumes nothing.
 use Prim.Native.Nat.{ℕ, ◌+◌, ◌-◌, ◌≤◌, ◌<◌}
 use native.Mathlib.Omega.{arith}
-use mathlib.Core.Path.{◌≡◌, refl, ap, sym, ◌∙◌}
+use mathlib.Core.Path.{◌≡◌, ap, sym, ◌∙◌}
 use mathlib.Core.List.{List, ◌++◌, append_assoc}
 use lib.ListN.{length, take, drop, take-append-drop, length-drop}
 use lib.Seq.{drop-drop}
 use Rattle.rules.specs.History.{Work, ours}
 use Rattle.rules.specs.Log.{header, log}
-use Rattle.rules.specs.Feeding.{Held, starting, fed, finished, onwards}
+use Rattle.rules.specs.Feeding.{Held, starting, fed, onwards}
 use Rattle.rules.proofs.Feeding.{fed-onwards, all-onwards, some-taken, taken-within}
 use Rattle.lotlines.specs.declared.State.{State}
 use Rattle.lotlines.specs.declared.Fed.{Fed}
-use Rattle.lottexts.specs.Printing.{Puts}
-use Rattle.lotlines.specs.Paper.{Starts, Feeds}
-use Rattle.lotstream.specs.Turns.{Logs}
-use Rattle.lotstream.specs.declared.Turn.{Turn}
+use Rattle.lotlines.specs.Paper.{Feeds}
 
 -- a line, and then the rest of the piece and what comes after it
 pub line-onwards : (w : Work) (s : Held) (p more : List ℕ)
@@ -42,35 +39,9 @@ line_taken w s piece part at e h =
     (some-taken w s part (omega (arith, long)), omega (arith, long, taken-within w s part))
 
 -- Our work, by its name.
-pub starts-ours : {w : Work} {s : State} → w ≡ ours → Starts w s → Starts ours s
-starts-ours e p = rw e at p
-
-pub feeds-ours : {w : Work} {s : State} {piece out last : List ℕ} {r : Fed} → w ≡ ours → Feeds w s piece out last r
-    → Feeds ours s piece out last r
+pub feeds-ours : {w : Work} {s : State} {piece : List ℕ} {r : Fed} → w ≡ ours → Feeds w s piece r → Feeds ours s piece r
 feeds-ours e f = rw e at f
-
-pub finishes-ours : {w : Work} (s : Held) {out last : List ℕ} {r : ℕ} → w ≡ ours
-    → Puts 0 (finished w s) out last r → Puts 0 (finished ours s) out last r
-finishes-ours s e p = rw e at p
 
 pub all-same : (w : Work) (s : Held) (waits : List ℕ) → s ≡ starting w → waits ≡ header → (input : List ℕ)
     → waits ++ onwards w s input ≡ log w input
 all-same w s waits e h input = rw (e, h) (all-onwards w input)
-
--- Lines of a piece, one after another.
-pub logs-none : (t : Turn) (piece out : List ℕ) → t.taken ≤ length piece → t.waiting ≤ length out
-    → Logs t piece out out t
-logs-none t piece out h g =
-    record { same = λ more. refl; within = h; fits = g; long = refl; over = refl; failed = refl }
-
-pub logs-then : {t r q : Turn} {piece out mid last : List ℕ} → Logs t piece out mid r → length mid ≡ length out
-    → Logs r piece mid last q → Logs t piece out last q
-logs-then a e b =
-    record {
-      same = λ more. b.same more ∙ a.same more;
-      within = b.within;
-      fits = omega (arith, b.fits, e);
-      long = b.long ∙ a.long;
-      over = b.over ∙ a.over;
-      failed = b.failed ∙ a.failed;
-    }

@@ -1,6 +1,6 @@
 -- A turn, by each of its ends: what was to be written is what it writes and what is to be written after it.
 -- Assumes nothing.
-use Prim.Native.Nat.{ℕ, ◌+◌, ◌-◌, ◌<◌, ◌≤◌}
+use Prim.Native.Nat.{ℕ, ◌+◌, ◌≤◌}
 use native.Mathlib.Omega.{arith}
 use mathlib.Core.Path.{◌≡◌, refl, ap, sym, subst, ◌∙◌}
 use mathlib.Core.Bool.{Bool, true, false, cond}
@@ -42,37 +42,6 @@ module _ {t : Turn} {input out : List ℕ} (first : Fits (scene t input out)) {s
         waiting = omega (arith, w.none);
         room = first.room;
       }
-
-  -- the write failed
-  pub not-written : sent.failed ≡ true → Turned (scene t input out) (scene sent input out)
-  not-written f =
-      record {
-        account = λ e more m. never f e;
-        answered = λ e o r. never f e;
-        cut = λ _. w.none;
-        ends = λ e _. never f e;
-        stays = λ o. w.over ∙ o;
-        held = λ _. w.state;
-        fits = sent-fits;
-      }
-
-  -- the input ended before
-  pub all-written : sent.over ≡ true → Turned (scene t input out) (scene sent input out)
-  all-written o =
-      record {
-        account = λ e more m. account more;
-        answered = λ e n r. never o n;
-        cut = λ _. w.none;
-        ends = λ _ n. never (sym w.over ∙ o) n;
-        stays = λ _. o;
-        held = λ _. w.state;
-        fits = sent-fits;
-      }
-    where
-      account : (more : List ℕ)
-          → unwritten (scene t input out) (reads (scene t input out) (scene sent input out) ++ more)
-          ≡ waits t out ++ unwritten (scene sent input out) more
-      account more = rw (o, w.none, sym w.over ∙ o)
 
   module _ (o : sent.over ≡ false) {read : List ℕ} {got : Turn} (g : Got sent input read got) where
     begun : t.over ≡ false
@@ -122,19 +91,6 @@ module _ {t : Turn} {input out : List ℕ} (first : Fits (scene t input out)) {s
         (λ (s : State). waits t out
         ++ onwards ours (held_paper s) (left got (take got.length read) ++ more))
         (sym (g.state ∙ w.state))
-
-    -- the read failed
-    pub not-read : got.failed ≡ true → Turned (scene t input out) (scene got read out)
-    not-read f =
-        record {
-          account = λ e more m. never f e;
-          answered = λ e n r. never f e;
-          cut = λ _. none;
-          ends = λ e _. never f e;
-          stays = λ e. never e begun;
-          held = λ _. g.state ∙ w.state;
-          fits = record { taken = g.within; long = g.fits; waiting = omega (arith, none); room = first.room };
-        }
 
     module _ {r : Turn} {last : List ℕ} (k : length last ≡ length out) (f : got.failed ≡ false) where
       -- the input has ended
@@ -236,14 +192,14 @@ module _ {t : Turn} {input out : List ℕ} (first : Fits (scene t input out)) {s
               ∙ ap (λ (q : List ℕ). waits t out ++ q) (sym (after more ∙ l.same more ∙ empty more))
 
 -- The first turn of a run, a turn more, and the run that ends with it.
-pub run-opened : {r : Turn} {turns : ℕ} {input out : List ℕ} → Opened out r → least_room ≤ length out
-    → turns ≡ most_turns → Running turns (scene r input out)
+pub run-opened : {r : Turn} {input out : List ℕ} → Opened out r → least_room ≤ length out
+    → Running 0 (scene r input out)
 unfolding Ran
-run-opened o h e =
+run-opened o h =
     record {
       past = [];
       ran = o;
-      count = omega (arith, e);
+      count = refl;
       going = o.failed;
       fits = record {
         taken = omega (arith, o.taken);
@@ -258,18 +214,19 @@ module _ {turns : ℕ} {before now : Scene} (run : Running turns before) (turned
   unfolding Ran
   ran-more = (run.ran, run.going, turned)
 
-  pub run-more : now.turn.failed ≡ false → 0 < turns → Running (turns - 1) now
-  run-more f h =
+  pub run-more : now.turn.failed ≡ false → Running (turns + 1) now
+  run-more f =
       record {
         past = before ∷ run.past;
         ran = ran-more;
-        count = omega (arith, run.count, h);
+        count = omega (arith, run.count);
         going = f;
         fits = turned.fits;
       }
 
 -- no turn is left
-pub runs-now : {r : Turn} {turns : ℕ} {input out read put : List ℕ} → least_room ≤ length out → turns ≤ 0
+pub runs-now : {r : Turn} {turns : ℕ} {input out read put : List ℕ} → least_room ≤ length out
+    → turns ≡ most_turns
     → Running turns (scene r read put) → Runs input out read put r
 runs-now h e run =
     record {

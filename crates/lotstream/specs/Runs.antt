@@ -79,11 +79,11 @@ wrote_in (before ∷ past) = wrote_in past ++ writes before
 abbrev pub most_turns : ℕ
 most_turns = 18446744073709551615
 
--- A run that goes on, with so many turns left.
+-- A run that goes on, after so many turns.
 pub record Running (turns : ℕ) (now : Scene) : Type 0 where
   pub past : List Scene
   pub ran : Ran past now
-  pub count : length past + turns ≡ most_turns
+  pub count : length past ≡ turns
   pub going : now.turn.failed ≡ false
   pub fits : Fits now
 

@@ -1,19 +1,26 @@
 -- What each step of a turn leaves: what is held, what is left of the piece, and what waits in the output. Definitions
 -- only.
-use Rattle.std.specs.Prelude.{ℕ, ◌+◌, ◌≤◌, ◌≡◌, false, cond, List, [], ◌++◌, ltb, eqb, ℤ, pos, length, take, drop}
-use Rattle.std.proofs.lemmas.List.Edits.{sets}
-use Rattle.std.specs.Int.Signed.{lt_z}
-use Rattle.io.specs.Counts.{clamp_len}
+use Rattle.std.specs.Prelude.{ℕ, ◌+◌, ◌≤◌, ◌≡◌, false, cond, List, [], ◌++◌, ltb, eqb, length, take, drop, Result}
+use Rattle.std.specs.Result.{result_unwrap_or, is_err}
 use Rattle.rules.specs.History.{ours}
 use Rattle.rules.specs.Log.{log}
 use Rattle.rules.specs.Feeding.{finished, onwards}
-use Rattle.lotlines.specs.Paper.{held_paper}
+use Rattle.lotlines.specs.Paper.{held_paper, Starts}
 use Rattle.lotstream.specs.declared.Turn.{Turn}
 
--- a text stored whole behind what waits, and the rest as it was
+-- Before anything is read.
+pub record Fresh (r : Turn) : Type 0 where
+  pub state : Starts ours r.state
+  pub long : r.length ≡ 0
+  pub taken : r.taken ≡ 0
+  pub waiting : r.waiting ≡ 0
+  pub over : r.over ≡ false
+  pub failed : r.failed ≡ false
+
+-- a text put whole behind what waits, and the rest as it was
 pub record PutAfter (waiting : ℕ) (text out last : List ℕ) (r : ℕ) : Type 0 where
   pub next : r ≡ waiting + length text
-  pub stored : last ≡ sets out waiting text
+  pub stored : last ≡ (take waiting out ++ text) ++ drop (waiting + length text) out
 
 abbrev pub waits : Turn → List ℕ → List ℕ
 waits t output = take t.waiting output
@@ -61,13 +68,12 @@ pub record Written (t r : Turn) : Type 0 where
   pub taken : r.taken ≡ t.taken
   pub over : r.over ≡ t.over
 
--- The piece of as many bytes as the read answered; none is the end of the input, and below 0 the read failed.
-pub record Taken (t : Turn) (got : ℤ) (room : ℕ) (r : Turn) : Type 0 where
-  pub long : r.length ≡ clamp_len got room
-  pub fits : r.length ≤ room
+-- The piece of as many bytes as the read answered; none is the end of the input, and none after a read that failed.
+pub record Taken {E : Type 0} (t : Turn) (read : Result ℕ E) (r : Turn) : Type 0 where
+  pub long : r.length ≡ result_unwrap_or read 0
   pub taken : r.taken ≡ 0
   pub over : r.over ≡ eqb r.length 0
-  pub failed : r.failed ≡ lt_z got (pos 0)
+  pub failed : r.failed ≡ is_err read
   pub state : r.state ≡ t.state
   pub waiting : r.waiting ≡ t.waiting
 

@@ -2,10 +2,9 @@
 // where the last one is used up, and its lines are put into the output.
 #![tactic(auto)]
 
-ghost use Rattle.std.specs.Prelude.{◌+◌, ◌<◌, ◌≤◌, ◌≡◌, length, pos, OnErr, IfOk, ◌<ℤ◌};
-ghost use Rattle.std.specs.Io.{ReadsAtMost};
+ghost use Rattle.std.specs.Prelude.{◌+◌, ◌<◌, ◌≤◌, ◌≡◌, length, IfOk};
 ghost use Rattle.lottexts.specs.Printing.{line_room};
-ghost use Rattle.lotstream.specs.Turns.{PutAfter, Logs, Opened, Written, Taken, Got, LastPut};
+ghost use Rattle.lotstream.specs.Turns.{Fresh, PutAfter, Logs, Opened, Written, Taken, Got, LastPut};
 ghost use Rattle.lotstream.specs.Runs.{least_room, scene, Fits, Turned, Runs};
 
 #[cfg(test)]
@@ -18,7 +17,8 @@ use std::io::{Read, Result, Write};
 const LEAST: usize = 100;
 
 // What is held between turns, how many bytes the piece has and how many of them were taken, how many bytes of the
-// output wait, whether the input has ended, and whether a call failed, which was then said on standard error.
+// output wait, whether the input has ended, and whether a call failed, which was then said on standard error. Numbers
+// and no slices: the memory is lent to the whole run.
 #[derive(Clone, Copy)]
 pub struct Turn {
     pub state: State,
@@ -29,40 +29,42 @@ pub struct Turn {
     pub failed: bool,
 }
 
+// Before anything is read.
+fn fresh() -> Turn
+    ensures { Fresh result }
+{
+    Turn {
+        state: lotlines::start(severity::ours()),
+        length: 0,
+        taken: 0,
+        waiting: 0,
+        over: false,
+        failed: false,
+    }
+}
+
 // The bytes of a line are put after those that wait to be written.
 fn put(output: &mut [u8], waiting: usize, line: &[u8]) -> usize
     requires { waiting + length line.now ≤ length output.old }
     ensures { PutAfter waiting line.now output.old output.new result }
 {
-    let mut i: usize = 0;
-    while i < line.len() {
-        output[waiting + i] = line[i];
-        i += 1;
-    }
-    waiting + i
+    let end = waiting + line.len();
+    output[waiting..end].copy_from_slice(line);
+    end
 }
 
-// One line.
+// One line. What its places keep to is asked here: a turn is public, and a caller may make any.
 fn log_line(turn: Turn, piece: &[u8], output: &mut [u8]) -> Turn
     requires { (turn.taken < length piece.now) × (turn.waiting + line_room ≤ length output.old) }
     ensures { Logs turn piece.now output.old output.new result
         × (turn.taken < result.taken) }
 {
-    let mut line = [0u8; LINE];
-    let held = turn.state;
-    let at = turn.taken;
-    let fed = lotlines::feed(severity::ours(), held, &piece[at..], &mut line);
-    let next = fed.state;
-    let written = fed.written;
-    let waiting = put(output, turn.waiting, &line[..written]);
-    let taken = at + fed.taken;
+    let fed = lotlines::feed(severity::ours(), turn.state, &piece[turn.taken..]);
     Turn {
-        state: next,
-        length: turn.length,
-        taken,
-        waiting,
-        over: turn.over,
-        failed: turn.failed,
+        state: fed.state,
+        taken: turn.taken + fed.taken,
+        waiting: put(output, turn.waiting, fed.text.as_slice()),
+        ..turn
     }
 }
 
@@ -73,10 +75,7 @@ fn log_lines(turn: Turn, piece: &[u8], output: &mut [u8]) -> Turn
         × (result.waiting + line_room ≤ length output.old → result.taken ≡ length piece.now) }
 {
     let mut done = turn;
-    while done.taken < piece.len() {
-        if output.len() < done.waiting + LINE {
-            return done;
-        }
+    while done.taken < piece.len() && done.waiting + LINE <= output.len() {
         done = log_line(done, piece, output);
     }
     done
@@ -87,16 +86,9 @@ fn open_log(output: &mut [u8]) -> Turn
     requires { least_room ≤ length output.old }
     ensures { Opened output.new result }
 {
-    let mut line = [0u8; LINE];
-    let written = lotlines::header(&mut line);
-    let filled = put(output, 0, &line[..written]);
     Turn {
-        state: lotlines::start(severity::ours()),
-        length: 0,
-        taken: 0,
-        waiting: filled,
-        over: false,
-        failed: false,
+        waiting: put(output, 0, lotlines::header().as_slice()),
+        ..fresh()
     }
 }
 
@@ -105,96 +97,64 @@ fn put_last(turn: Turn, output: &mut [u8]) -> Turn
     requires { turn.waiting + line_room ≤ length output.old }
     ensures { LastPut turn output.old output.new result }
 {
-    let mut line = [0u8; LINE];
-    let held = turn.state;
-    let written = lotlines::finish(severity::ours(), held, &mut line);
-    let filled = put(output, turn.waiting, &line[..written]);
+    let line = lotlines::finish(severity::ours(), turn.state);
     Turn {
-        state: held,
-        length: turn.length,
-        taken: turn.taken,
-        waiting: filled,
-        over: turn.over,
-        failed: turn.failed,
+        waiting: put(output, turn.waiting, line.as_slice()),
+        ..turn
     }
 }
 
-// How many bytes were to be written, and whether they were.
-#[derive(Drop)]
-struct Sent {
-    bytes: usize,
-    done: bool,
-}
-
-// The writer holds nothing back.
-fn write_out<W: Write>(writer: &mut W, bytes: &[u8]) -> Result<()> {
-    writer.write_all(bytes)?;
-    writer.flush()
-}
-
-// The one call that writes.
-fn send<W: Write, E: Eprint>(rt: &E, writer: &mut W, bytes: &[u8]) -> Sent
-    ensures { result.bytes ≡ length bytes.now }
+// The one call that writes: how many bytes were written. The writer holds nothing back.
+fn write_out<W: Write>(writer: &mut W, bytes: &[u8]) -> Result<usize>
+    ensures { IfOk result (λ n. n ≡ length bytes.now) }
 {
-    let done = match write_out(writer, bytes) {
-        Ok(()) => true,
-        Err(e) => {
-            let _ = eprintln!(rt; "lotlog: the log cannot be written: {e}");
-            false
-        }
-    };
-    Sent {
-        bytes: bytes.len(),
-        done,
-    }
+    writer.write_all(bytes)?;
+    writer.flush()?;
+    Ok(bytes.len())
 }
 
-// All that waits is written.
+// All that waits is written; after a failure, which is said, nothing waits.
 fn write_waiting<W: Write, E: Eprint>(rt: &E, writer: &mut W, turn: Turn, output: &[u8]) -> Turn
     requires { turn.waiting ≤ length output.now }
     ensures { Written turn result }
 {
-    let waiting = turn.waiting;
-    let sent = send(rt, writer, &output[..waiting]);
-    let held = turn.state;
-    let left = waiting - sent.bytes;
-    Turn {
-        state: held,
-        length: turn.length,
-        taken: turn.taken,
-        waiting: left,
-        over: turn.over,
-        failed: !sent.done,
+    match write_out(writer, &output[..turn.waiting]) {
+        Ok(written) => Turn {
+            waiting: turn.waiting - written,
+            ..turn
+        },
+        Err(e) => {
+            let _ = eprintln!(rt; "lotlog: the log cannot be written: {e}");
+            Turn {
+                waiting: 0,
+                failed: true,
+                ..turn
+            }
+        }
     }
 }
 
-// What a read answers: the next piece, the end of the input, or that it failed.
-fn take_piece(turn: Turn, got: isize, input: &[u8]) -> Turn
-    ensures { Taken turn got (length input.now) result }
-{
-    let held = turn.state;
-    let n = io::count(got, input);
-    Turn {
-        state: held,
-        length: n,
-        taken: 0,
-        waiting: turn.waiting,
-        over: n == 0,
-        failed: got < 0,
-    }
-}
-
-// What a read answers, as a number: how many bytes it brought, or one below 0 where it failed, which is said.
-fn count_read<E: Eprint>(rt: &E, read: Result<usize>, input: &[u8]) -> isize
-    requires { ReadsAtMost read input.now }
-    ensures ok { IfOk read (λ n. result ≡ pos n) }
-    ensures err { OnErr read (result <ℤ pos 0) }
+// What a read answers: the next piece, the end of the input, or that it failed, which is said.
+fn take_piece<E: Eprint>(rt: &E, turn: Turn, read: Result<usize>) -> Turn
+    ensures { Taken turn read result }
 {
     match read {
-        Ok(n) => n as isize,
+        Ok(length) => Turn {
+            length,
+            taken: 0,
+            over: length == 0,
+            failed: false,
+            ..turn
+        },
         Err(e) => {
             let _ = eprintln!(rt; "lotlog: the input cannot be read: {e}");
-            -1
+            Turn {
+                length: 0,
+                taken: 0,
+                over: true,
+                failed: true,
+                ..turn
+            }
         }
     }
 }
@@ -207,9 +167,7 @@ fn next_piece<R: Read, E: Eprint>(rt: &E, reader: &mut R, turn: Turn, input: &mu
     if turn.taken < turn.length {
         return turn;
     }
-    let read = reader.read(input);
-    let got = count_read(rt, read, input);
-    take_piece(turn, got, input)
+    take_piece(rt, turn, reader.read(input))
 }
 
 // A turn: what waits is written before more is read, and nothing is read after the end or after a failure.
@@ -226,27 +184,23 @@ fn next_turn<R: Read, W: Write, E: Eprint>(
         (scene result input.new output.new) }
 {
     let sent = write_waiting(rt, writer, turn, output);
-    if sent.failed {
-        return sent;
-    }
-    if sent.over {
+    if sent.failed || sent.over {
         return sent;
     }
     let got = next_piece(rt, reader, sent, input);
-    let cut = got.failed;
-    if cut {
+    if got.failed {
         return got;
     }
     if got.over {
         return put_last(got, output);
     }
-    let piece = got.length;
-    log_lines(got, &input[..piece], output)
+    let piece = &input[..got.length];
+    log_lines(got, piece, output)
 }
 
-// A proved loop has to end, and nothing says that an input does: the turns count down from a number that no run uses
-// up. The lent memory is only worked in. The last turn is answered, and one that failed where the output is too small
-// to work in: then nothing is read or written.
+// A proved loop has to end, and nothing says that an input does: so many turns no run uses up. The lent memory is only
+// worked in. The last turn is answered, and one that failed where the output is too small to work in: then nothing is
+// read or written.
 pub fn run<R: Read, W: Write, E: Eprint>(
     rt: &E,
     reader: &mut R,
@@ -258,27 +212,16 @@ pub fn run<R: Read, W: Write, E: Eprint>(
 {
     if output.len() < LEAST {
         return Turn {
-            state: lotlines::start(severity::ours()),
-            length: 0,
-            taken: 0,
-            waiting: 0,
-            over: false,
             failed: true,
+            ..fresh()
         };
     }
     let mut turn = open_log(output);
-    let mut turns = u64::MAX;
-    while turns > 0 {
+    for _turns in 0..u64::MAX {
         turn = next_turn(rt, reader, writer, turn, input, output);
-        if turn.failed {
+        if turn.failed || (turn.over && turn.waiting == 0) {
             return turn;
         }
-        if turn.over {
-            if turn.waiting == 0 {
-                return turn;
-            }
-        }
-        turns -= 1;
     }
     turn
 }

@@ -11,25 +11,20 @@ pub fn count(s: &[u8]) -> usize
     s.len() / 2
 }
 
-fn joined(low: u8, high: u8) -> u64
-    ensures { (result ≡ low + 256 * high) × (result < 65536) }
-{
-    low as u64 + 256 * (high as u64)
-}
-
 // The number at the place `i`, counted from 0.
-pub fn number(s: &[u8], i: usize) -> u64
-    ensures { (result ≡ get_or (numbers_of s.now) i 0) × (result < 65536) }
+pub fn number(s: &[u8], i: usize) -> u16
+    ensures { result ≡ get_or (numbers_of s.now) i 0 }
 {
     if i < s.len() / 2 {
-        return joined(s[2 * i], s[2 * i + 1]);
+        return u16::from_le_bytes([s[2 * i], s[2 * i + 1]]);
     }
     0
 }
 
 // The reading at the place `i`, in two's complement, plus 32,768: so it is 0 to 65,535.
-pub fn raised_reading(s: &[u8], i: usize) -> u64
-    ensures { (pos result ≡ signed_of (get_or (numbers_of s.now) i 0) +ℤ pos 32768) × (result < 65536) }
+#[tactic(auto, using(crate::proofs::Readings::raised))]
+pub fn raised_reading(s: &[u8], i: usize) -> u16
+    ensures { pos result ≡ signed_of (get_or (numbers_of s.now) i 0) +ℤ pos 32768 }
 {
     let v = number(s, i);
     if v < 32768 {

@@ -1,37 +1,87 @@
--- The code's sizes and letters are those of Table 1, by one computed test over all rows and levels each.
+-- The code's sizes and letters are those of Table 1, by computed tests over all rows and levels.
 -- Assumes nothing.
-use Prim.Native.Nat.{ℕ, ◌<◌}
-use mathlib.Core.Path.{◌≡◌}
-use mathlib.Core.Bool.{Bool}
-use mathlib.Core.List.{List}
-use lib.Dec.{T, eqb, eqb→eq}
-use lib.ListN.{get_or}
+use Rattle.std.proofs.Common.{ℕ, ◌≡◌, ◌<◌, Bool, true, false, cond, ◌&&◌, List, [], ◌∷◌, leb, eqb, get_or, unwrap_or}
+use Rattle.std.proofs.Common.{find, option_map, Option, Some, ap}
+use lib.Dec.{T, eqb→eq}
 use Rattle.rules.specs.Codes as paper
-use Rattle.rules.specs.Codes.{table_one, above}
-use Rattle.rules.proofs.Bounded.{all, all-at, all-at₂}
-use Rattle.plans.specs.Tables.{up_to, letters}
+use Rattle.rules.specs.Codes.{table_one, above, row_from, row_of}
+use Rattle.rules.proofs.Bounded.{all, all-at, all-at₂, both_left, both-right}
+use Rattle.plans.specs.declared.SizeRow.{SizeRow}
+use Rattle.plans.specs.declared.TheConstants.{TABLE_ONE, ABOVE}
+use Rattle.plans.specs.Paper.{letters_in}
 
+-- the last size of each row of the code is that of Table 1 ..
 ends : ℕ → Bool
-ends r = eqb (get_or up_to r 0) (get_or table_one r above).last
+ends r = eqb (get_or TABLE_ONE r ABOVE).0 (get_or table_one r above).last
 
 ends-all : T (all 14 ends)
 unfolding ends
 ends-all = tt
 
-pub last-held : (r : ℕ) → r < 14 → get_or up_to r 0 ≡ (get_or table_one r above).last
+pub last-held : (r : ℕ) → r < 14 → (get_or TABLE_ONE r ABOVE).0 ≡ (get_or table_one r above).last
 unfolding ends
 last-held r h = eqb→eq _ _ (all-at 14 ends ends-all r h)
 
-module _ (row : List ℕ) (none : ℕ) where
+-- .. and so are each row's letters, by level
+module _ (none : ℕ) where
   held : ℕ → ℕ → Bool
   held r level =
-      eqb (get_or (get_or letters r row) level none) (get_or (paper.letters (get_or table_one r above).levels) level 0)
+      eqb (get_or (get_or TABLE_ONE r ABOVE).1 level none)
+      (get_or (paper.letters (get_or table_one r above).levels) level 0)
 
   held-all : T (all 15 (λ r. all 7 (held r)))
   unfolding held
   held-all = tt
 
   pub letter-held : (r level : ℕ) → r < 15 → level < 7
-      → get_or (get_or letters r row) level none ≡ get_or (paper.letters (get_or table_one r above).levels) level 0
+      → get_or (get_or TABLE_ONE r ABOVE).1 level none
+      ≡ get_or (paper.letters (get_or table_one r above).levels) level 0
   unfolding held
   letter-held r level h g = eqb→eq _ _ (all-at₂ 15 7 held held-all r level h g)
+
+-- the letters of a row that may have been found
+abbrev letters_by : Option SizeRow → List ℕ
+letters_by row = unwrap_or (option_map (λ row. row.1) row) ABOVE.1
+
+-- a row of the code and one of Table 1 end alike and have the same letters
+letters_alike : List ℕ → paper.SizeRow → ℕ → Bool
+letters_alike ls row level = eqb (get_or ls level 0) (get_or (paper.letters row.levels) level 0)
+
+alike : List SizeRow → List paper.SizeRow → Bool
+alike [] [] = all 7 (letters_alike ABOVE.1 above)
+alike [] (y ∷ ys) = false
+alike (x ∷ xs) [] = false
+alike (x ∷ xs) (y ∷ ys) = eqb x.0 y.last && (all 7 (letters_alike x.1 y) && alike xs ys)
+
+all-alike : T (alike TABLE_ONE table_one)
+unfolding alike letters_alike
+all-alike = tt
+
+module _ (size level : ℕ) (l : level < 7) where
+  letter-from : (xs : List SizeRow) (ys : List paper.SizeRow) → T (alike xs ys)
+      → get_or (letters_in xs size) level 0 ≡ get_or (paper.letters (row_from ys size).levels) level 0
+  unfolding alike letters_alike row_from
+  letter-from [] [] t = eqb→eq _ _ (all-at 7 (letters_alike ABOVE.1 above) t level l)
+  letter-from [] (y ∷ ys) t = elim t [ ]
+  letter-from (x ∷ xs) [] t = elim t [ ]
+  letter-from (x ∷ xs) (y ∷ ys) t =
+      let here = both_left (eqb x.0 y.last) (all 7 (letters_alike x.1 y) && alike xs ys) t in
+      let rest = both-right (eqb x.0 y.last) (all 7 (letters_alike x.1 y) && alike xs ys) t in
+      let same = both_left (all 7 (letters_alike x.1 y)) (alike xs ys) rest in
+      let next = letter-from xs ys (both-right (all 7 (letters_alike x.1 y)) (alike xs ys) rest) in
+      let held = eqb→eq _ _ (all-at 7 (letters_alike x.1 y) same level l) in
+      go (leb size x.0) (leb size y.last) (ap (leb size) (eqb→eq x.0 y.last here)) held next
+    where
+      go : (b d : Bool) → b ≡ d → get_or x.1 level 0 ≡ get_or (paper.letters y.levels) level 0
+          → get_or (letters_in xs size) level 0 ≡ get_or (paper.letters (row_from ys size).levels) level 0
+          → get_or (letters_by (cond b (Some x) (find (λ row. leb size row.0) xs))) level 0
+          ≡ get_or (paper.letters (cond d y (row_from ys size)).levels) level 0
+      go true true e h n = h
+      go true false e h n = cc
+      go false true e h n = cc
+      go false false e h n = n
+
+  -- the code's letter of a size is that of Table 1
+  pub letter-found : get_or (letters_in TABLE_ONE size) level 0 ≡ paper.letter_of size level
+  unfolding row_of paper.letter_of
+  letter-found = letter-from TABLE_ONE table_one all-alike

@@ -3,6 +3,7 @@
 -- Assumes nothing.
 use Prim.Native.Nat.{ℕ, zero, suc, ◌+◌, ◌-◌, ◌≤◌, ◌<◌}
 use mathlib.Core.Path.{◌≡◌, refl, ap, sym, ◌∙◌}
+use mathlib.Core.List.{[]}
 use mathlib.Core.Bool.{Bool, true, false, cond, ◌&&◌, and-false}
 use native.Mathlib.Omega.{arith}
 use lib.Dec.{T, leb, eqb, eqb→eq}
@@ -14,17 +15,36 @@ use Rattle.rules.specs.Straight.{last_number, ac_along}
 use Rattle.rules.proofs.Bounded.{all, all-at, all-at₂, by-le}
 use Rattle.rules.proofs.Tables.{row-over}
 use Rattle.rules.proofs.Landing.{last-by-column, landing-box}
+use Rattle.plans.specs.declared.TheConstants.{ACS}
+use Rattle.plans.specs.declared.Table.{Table}
+use Rattle.plans.specs.declared.Table.TheVariants as tables
+use Rattle.plans.specs.Paper.{severity_of}
 
--- what the last arm of a match knows: s is none of n numbers from k on
+-- a table of the code is one of the two
+pub of-table : (t : Table) → severity_of t < 2
+of-table tables.Normal = omega arith
+of-table tables.Tightened = omega arith
+
+-- the code's numbers along s are those of the tables, by one computed test
+ac_held : ℕ → ℕ → Bool
+ac_held v i = eqb (get_or (get_or ACS v []) i 0) (ac_along v (17 + i))
+
+ac-held : T (all 2 (λ v. all 10 (ac_held v)))
+unfolding ac_held
+ac-held = tt
+
+pub ac-found : (v s : ℕ) → v < 2 → 17 ≤ s → s ≤ 26 → get_or (get_or ACS v []) (s - 17) 0 ≡ ac_along v s
+unfolding ac_held
+ac-found v s h f l =
+    let e : 17 + (s - 17) ≡ s = omega arith in
+    eqb→eq _ _ (all-at₂ 2 10 ac_held ac-held v (s - 17) h (omega arith)) ∙ ap (ac_along v) e
+
+-- s is none of n numbers from k on
 abbrev pub NoneOf : ℕ → ℕ → ℕ → Type 0
 NoneOf s k zero = Unit {0}
 NoneOf s k (suc n) = NoneOf s k n × (s ≡ k + n → ⊥)
 
--- a table that is not the normal one is the tightened one
-pub other-table : {severity : ℕ} → severity < 2 → NoneOf severity 0 1 → severity ≡ 1
-other-table v n = let other = n.1 in omega arith
-
--- the Ac of s in the arm of k, in the table of v ..
+-- the Ac along s at a severity and s that are known ..
 pub ac-in-arm : {severity s k : ℕ} (v : ℕ) → severity ≡ v → s ≡ k → ac_along v k ≡ ac_along severity s
 ac-in-arm v e f = rw (e, f)
 
@@ -42,7 +62,7 @@ none-under = tt
 none-over : (severity s : ℕ) → severity < 2 → 26 < s → 0 ≡ ac_along severity s
 none-over severity s v h = sym (ap (λ (r : paper.Row). ac_of r.there) (row-over severity s v h))
 
--- .. and in the last arm: they stand from 17 on, tightened from 18 on, up to 26
+-- .. and none at any other s: they stand from 17 on, tightened from 18 on, up to 26
 pub no-ac : {severity : ℕ} (v s : ℕ) → v < 2 → severity ≡ v → NoneOf s (17 + v) (10 - v) → 0 ≡ ac_along severity s
 unfolding none_under
 no-ac v s h e u =

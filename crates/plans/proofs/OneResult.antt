@@ -1,33 +1,21 @@
--- Each promise of a struct or an enum admits one result: answers with the same numbers and values are the same. (The
--- other public functions promise their result itself.)
+-- Each promise of a struct or a result admits one: answers with the same numbers and values are the same. (The other
+-- public functions promise their result itself.)
 -- Assumes nothing.
+use Rattle.std.proofs.Common.{ℕ, Result}
 use mathlib.Core.Path.{◌≡◌, refl, ap}
-use Rattle.rules.specs.Refusals.{Answer, refused, given}
 use Rattle.rules.specs.Verdict as rules
 use Rattle.rules.specs.Single as paper
 use Rattle.rules.specs.Fractional as fractional
 use Rattle.rules.proofs.Answers.{read-back}
-use Rattle.plans.specs.declared.SinglePlan.{SinglePlan}
-use Rattle.plans.specs.declared.Verdict.{Verdict}
-use Rattle.plans.specs.declared.LetterAnswer.{LetterAnswer}
-use Rattle.plans.specs.declared.LetterAnswer.TheVariants as letters
-use Rattle.plans.specs.declared.Outcome.{Outcome}
-use Rattle.plans.specs.declared.Outcome.TheVariants as outcomes
-use Rattle.plans.specs.declared.VerdictAnswer.{VerdictAnswer}
-use Rattle.plans.specs.declared.VerdictAnswer.TheVariants as verdicts
-use Rattle.plans.specs.declared.SinglePlanned.{SinglePlanned}
-use Rattle.plans.specs.declared.FractionalPlan.{FractionalPlan}
-use Rattle.plans.specs.declared.FractionalPlanned.{FractionalPlanned}
+use Rattle.refusals.specs.declared.Reason.{Reason}
+use Rattle.refusals.specs.Paper.{reason_by, itself}
+use Rattle.refusals.proofs.OneResult.{reason-one}
 use Rattle.plans.specs.declared.Asked.{Asked}
-use Rattle.plans.specs.Paper.{asked_paper}
-use Rattle.plans.specs.Paper.{plan_paper, verdict_paper, letter_paper, verdict_answer, Beside, outcome_on}
-use Rattle.plans.specs.Paper.{planned_paper, fractional_paper, fractional_planned}
-
-pub letter-one : (a b : LetterAnswer) → letter_paper a ≡ letter_paper b → a ≡ b
-letter-one (letters.Refused n p) (letters.Refused m q) e = cc
-letter-one (letters.Refused n p) (letters.Given l) e = cc
-letter-one (letters.Given l) (letters.Refused m q) e = cc
-letter-one (letters.Given l) (letters.Given k) e = cc
+use Rattle.plans.specs.declared.SinglePlan.{SinglePlan}
+use Rattle.plans.specs.declared.FractionalPlan.{FractionalPlan}
+use Rattle.plans.specs.declared.Verdict.{Verdict}
+use Rattle.plans.specs.declared.Judged.{Judged}
+use Rattle.plans.specs.Paper.{asked_paper, plan_paper, fractional_paper, verdict_paper, judged_by}
 
 pub asked-one : (a b : Asked) → asked_paper a ≡ asked_paper b → a ≡ b
 asked-one =
@@ -40,6 +28,12 @@ plan_back p = record { letter = p.letter; n = p.n; ac = p.ac; table_n = p.table_
 pub plan-one : (a b : SinglePlan) → plan_paper a ≡ plan_paper b → a ≡ b
 plan-one a b e = ap plan_back e
 
+abbrev pub fractional_back : fractional.FractionalPlan → FractionalPlan
+fractional_back p = record { plan = plan_back p.plan; share = p.share }
+
+pub fraction-one : (a b : FractionalPlan) → fractional_paper a ≡ fractional_paper b → a ≡ b
+fraction-one a b e = ap fractional_back e
+
 abbrev pub verdict_back : rules.Verdict → Verdict
 verdict_back v =
     record { accepted = v.accepted; used = v.used; total = v.total; stage = v.stage; stages = v.stages }
@@ -47,45 +41,28 @@ verdict_back v =
 pub verdict-one : (a b : Verdict) → verdict_paper a ≡ verdict_paper b → a ≡ b
 verdict-one a b e = ap verdict_back e
 
-abbrev pub answer_back : Answer rules.Verdict → VerdictAnswer
-answer_back (refused n p) = verdicts.Refused n p
-answer_back (given v) = verdicts.Given (verdict_back v)
+-- a verdict beside a plan that its own paper tells
+module _ {P A : Type 0} (plan_of : P → A) (back : A → P) (same : (p : P) → back (plan_of p) ≡ p) where
+  abbrev pub judged_back : rules.Judged A rules.Verdict → Judged P
+  judged_back j = record { plan = back j.plan; verdict = verdict_back j.verdict }
 
-pub verdict-answer-one : (a b : VerdictAnswer) → verdict_answer a ≡ verdict_answer b → a ≡ b
-verdict-answer-one = read-back verdict_answer answer_back back
-  where
-    back : (a : VerdictAnswer) → answer_back (verdict_answer a) ≡ a
-    back (verdicts.Refused n p) = refl
-    back (verdicts.Given v) = refl
+  pub judged-back : (j : Judged P) → judged_back (judged_by plan_of j) ≡ j
+  judged-back j = ap (λ (p : P). record { plan = p; verdict = j.verdict }) (same j.plan)
 
--- an answer tells its outcome, whichever plan stands beside it
-abbrev pub outcome_back : {P : Type 0} → Answer P → Outcome
-outcome_back (refused n p) = outcomes.Refused n p
-outcome_back (given plan) = outcomes.Given
+  pub judged-one : (a b : Judged P) → judged_by plan_of a ≡ judged_by plan_of b → a ≡ b
+  judged-one = read-back (judged_by plan_of) judged_back judged-back
 
-pub outcome-back : {P : Type 0} (o : Outcome) (plan : P) → outcome_back (outcome_on o plan) ≡ o
-outcome-back (outcomes.Refused n p) plan = refl
-outcome-back outcomes.Given plan = refl
+-- the same of what may be refused
+pub letter-one : (a b : Result ℕ Reason) → reason_by itself a ≡ reason_by itself b → a ≡ b
+letter-one = reason-one itself itself (λ l. refl)
 
-planned_back : Beside paper.Plan paper.Plan → SinglePlanned
-planned_back b = record { answer = outcome_back b.answer; plan = plan_back b.plan }
+pub planned-one : (a b : Result SinglePlan Reason) → reason_by plan_paper a ≡ reason_by plan_paper b → a ≡ b
+planned-one = reason-one plan_paper plan_back (λ p. refl)
 
-pub planned-one : (a b : SinglePlanned) → planned_paper a ≡ planned_paper b → a ≡ b
-unfolding planned_back
-planned-one = read-back planned_paper planned_back back
-  where
-    back : (a : SinglePlanned) → planned_back (planned_paper a) ≡ a
-    back a =
-        ap (λ (o : Outcome). record { answer = o; plan = a.plan }) (outcome-back a.answer (plan_paper a.plan))
+pub fractional-planned-one : (a b : Result FractionalPlan Reason)
+    → reason_by fractional_paper a ≡ reason_by fractional_paper b → a ≡ b
+fractional-planned-one = reason-one fractional_paper fractional_back (λ p. refl)
 
--- the same in the mode of fractions
-abbrev pub fractional_back : fractional.FractionalPlan → FractionalPlan
-fractional_back p = record { plan = plan_back p.plan; share = p.share }
-
-pub fraction-one : (a b : FractionalPlan) → fractional_paper a ≡ fractional_paper b → a ≡ b
-fraction-one a b e = ap fractional_back e
-
-pub fractional-planned-one : (a b : FractionalPlanned) → fractional_planned a ≡ fractional_planned b → a ≡ b
-fractional-planned-one =
-    read-back fractional_planned (λ b. record { answer = outcome_back b.answer; plan = fractional_back b.plan })
-    (λ a. ap (λ (o : Outcome). record { answer = o; plan = a.plan }) (outcome-back a.answer _))
+-- of samples and readings too
+pub verdict-answer-one : (a b : Result Verdict Reason) → reason_by verdict_paper a ≡ reason_by verdict_paper b → a ≡ b
+verdict-answer-one = reason-one verdict_paper verdict_back (λ v. refl)

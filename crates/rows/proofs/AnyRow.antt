@@ -11,17 +11,13 @@ use lib.ListN.{length, length-take}
 use lib.Seq.{get_or-take, length-take-le}
 use Rattle.rules.specs.Book.{Kind, kind_at, size_of}
 use Rattle.rules.proofs.RowLaws.{Rowed, rowed}
-use Rattle.entry.proofs.AnyKind.{None, by-kind, last-kind}
+use Rattle.entry.proofs.AnyKind.{by-kind}
 use Rattle.rows.specs.Paper.{row_in}
 
 pub any-rowed : (n : ℕ) → Rowed (kind_at n)
 any-rowed =
     by-kind (λ n k. Rowed k) (rowed 0 (omega arith)) (rowed 1 (omega arith)) (rowed 2 (omega arith))
     (λ n l. rowed 3 (omega arith))
-
--- the key and the number after it stand in the row
-pub key-inside : (n : ℕ) → (kind_at n).key < (kind_at n).width
-key-inside n = (any-rowed n).wide
 
 -- a row that is not staged has the entry's numbers as they stand, and no others
 pub plain-place : (m i n : ℕ) → (n ≡ 1 → ⊥) → (kind_at n).in_row m i ≡ i
@@ -31,10 +27,6 @@ plain-place m i =
 pub plain-size : (m n : ℕ) → (n ≡ 1 → ⊥) → (kind_at n).size m ≡ (kind_at n).width
 plain-size m =
     by-kind (λ n k. (n ≡ 1 → ⊥) → k.size m ≡ k.width) (λ h. refl) (λ h. absurd (h refl)) (λ h. refl) (λ n l h. refl)
-
--- a variables row has five numbers
-pub width-last : (n : ℕ) → None 3 n → (5 ≡ (kind_at n).width) × (5 ≤ 25)
-width-last n h = rw (last-kind n h) (refl, omega arith)
 
 -- a place by the number after the key
 pub placed : (k : Kind) (i : ℕ) {p m n : ℕ} → p ≡ k.in_row m i → m ≡ n → p ≡ k.in_row n i

@@ -1,12 +1,10 @@
--- The entry of a row, laid number by number in the order of the book; and what each test of a row leaves.
+-- The entry of a row, laid number by number in the order of the book.
 -- Assumes nothing.
 use Prim.Native.Nat.{ℕ, suc, ◌+◌, ◌*◌, ◌≤◌, ◌<◌}
-use mathlib.Core.Path.{◌≡◌, refl, sym, ap, ◌∙◌}
-use mathlib.Core.Bool.{cond, ◌&&◌}
+use mathlib.Core.Path.{◌≡◌, sym, ap, ◌∙◌}
 use mathlib.Core.List.{List, [], ◌∷◌}
 use native.Mathlib.Omega.{arith}
-use borrow.Author.Tests.{le-leb, lt-leb}
-use lib.Dec.{leb}
+use borrow.Author.Tests.{le-leb}
 use lib.ListN.{length, get_or, drop_of_length-le}
 use lib.Seq.{sets, length-sets, drop-cons}
 use Rattle.rules.specs.Numbers.{numbers_of, number_bytes}
@@ -15,14 +13,9 @@ use Rattle.rules.specs.Writing.{entry_in_row}
 use Rattle.rules.proofs.Numbers.{numbers-low}
 use Rattle.rules.proofs.RowLaws.{Rowed, in-row-length, in-row-at, in-row-taken}
 use Rattle.rows.specs.Paper.{put_number, row_in, entry_laid, Layable, Laying}
-use Rattle.rows.proofs.AnyRow.{row-whole, row-cut, row-in-size}
+use Rattle.rows.proofs.AnyRow.{row-whole, row-in-size}
 
--- The loop, before the first number, at each, past each, and past the last.
-pub lay-opens : (k : Kind) (ws : List ℕ) (at : ℕ) (start : List ℕ) → Laying k ws at start start 0
-lay-opens k ws at start =
-    let e : at + 0 ≡ at = omega arith in
-    record { counted = omega arith; long = refl; left = rw e }
-
+-- The loop, at each number, past each, and past the last.
 module _ {k : Kind} {ws : List ℕ} {at : ℕ} {start out : List ℕ} {i : ℕ} (l : Laying k ws at start out i) where
   module _ (p : ℕ) (h : i < size_of k ws) (place : p ≡ k.in_row (get_or ws k.key 0) i) where
     pub lay-there : Rowed k → Layable k ws at start → (row : List ℕ) → numbers_of row ≡ ws
@@ -48,7 +41,6 @@ module _ {k : Kind} {ws : List ℕ} {at : ℕ} {start out : List ℕ} {i : ℕ} 
         let next : 2 * (at + (i + 1)) ≡ suc (suc (2 * (at + i))) = omega arith in
         let more : i + 1 ≡ suc i = omega arith in
         record {
-          counted = omega arith;
           long = ap length e ∙ length-sets out (2 * (at + i)) (number_bytes (get_or ws p 0 ∷ [])) ∙ l.long;
           left = rw (e, next, more, ← x) (sym (rw (drop-cons (entry_in_row k ws) i 0 deep)) ∙ l.left);
         }
@@ -59,44 +51,14 @@ module _ {k : Kind} {ws : List ℕ} {at : ℕ} {start out : List ℕ} {i : ℕ} 
       let past : length (entry_in_row k ws) ≤ i = omega (arith, in-row-length k ws) in
       sym (rw (drop_of_length-le (entry_in_row k ws) past)) ∙ l.left
 
--- What each test leaves.
-module _ (k : Kind) (ws : List ℕ) (at : ℕ) (out : List ℕ) where
-  pub lay-cut : length ws < k.width → out ≡ entry_laid k (row_in k ws) at out
-  lay-cut h = rw (row-cut k ws h)
-
-  module _ (inside : k.key < k.width) (whole : k.width ≤ length ws) where
-    -- past the first
-    tests : entry_laid k (row_in k ws) at out
-        ≡ cond (leb (size_of k ws) k.width && leb (at + size_of k ws) (length (numbers_of out)))
-        (sets out (2 * at) (number_bytes (entry_in_row k (row_in k ws)))) out
-    tests = rw (row-whole k ws whole, row-in-size k ws inside)
-
-    pub lay-long : k.width < size_of k ws → out ≡ entry_laid k (row_in k ws) at out
-    lay-long h = sym (tests ∙ rw (lt-leb (size_of k ws) k.width h))
-
-    pub lay-full : size_of k ws ≤ k.width → length (numbers_of out) < at + size_of k ws
-        → out ≡ entry_laid k (row_in k ws) at out
-    lay-full s h =
-        sym
-        (tests
-        ∙ rw (le-leb (size_of k ws) k.width s, lt-leb (at + size_of k ws) (length (numbers_of out)) h))
-
-  pub lay-is : Rowed k → k.key < k.width → Layable k ws at out
-      → sets out (2 * at) (number_bytes (entry_in_row k ws)) ≡ entry_laid k (row_in k ws) at out
-  lay-is r inside ready =
-      sym
-      (tests inside ready.whole
-      ∙ rw (
-        le-leb (size_of k ws) k.width ready.fits,
-        le-leb (at + size_of k ws) (length (numbers_of out)) ready.room,
-        (in-row-taken k r ws ready.fits).1,
-      ))
-
--- by a kind that is the same
-module _ {k j : Kind} (same : k ≡ j) (ws : List ℕ) (at : ℕ) (out : List ℕ) where
-  pub layable-as : Layable k ws at out → Layable j ws at out
-  layable-as ready = rw same at ready
-
-  pub laid-as : {out' : List ℕ} → out' ≡ sets out (2 * at) (number_bytes (entry_in_row j ws))
-      → out' ≡ sets out (2 * at) (number_bytes (entry_in_row k ws))
-  laid-as e = rw same e
+-- an entry that fits is laid
+pub lay-is : (k : Kind) (ws : List ℕ) (at : ℕ) (out : List ℕ) → Rowed k → Layable k ws at out
+    → sets out (2 * at) (number_bytes (entry_in_row k ws)) ≡ entry_laid k (row_in k ws) at out
+lay-is k ws at out r ready =
+    rw (
+      row-whole k ws ready.whole,
+      row-in-size k ws r.wide,
+      le-leb (size_of k ws) k.width ready.fits,
+      le-leb (at + size_of k ws) (length (numbers_of out)) ready.room,
+      (in-row-taken k r ws ready.fits).1,
+    )

@@ -1,18 +1,17 @@
--- An entry shown as a row: its numbers put at their places, and what each test of it leaves.
+-- An entry shown as a row: its numbers put at their places.
 -- Assumes nothing.
 use Prim.Native.Nat.{ℕ, suc, ◌+◌, ◌*◌, ◌≤◌, ◌<◌}
 use mathlib.Core.Path.{◌≡◌, ap, ◌∙◌}
 use mathlib.Core.List.{List, ◌++◌}
 use native.Mathlib.Omega.{arith}
-use borrow.Author.Tests.{le-leb, lt-leb}
-use lib.ListN.{length, get_or, drop, replicate, length-append, length-drop, length-replicate}
+use lib.ListN.{length, get_or, drop, replicate, length-append, length-replicate}
 use lib.Seq.{drop_at}
 use Rattle.rules.specs.Numbers.{numbers_of, number_bytes}
 use Rattle.rules.specs.Book.{Kind, size_of}
 use Rattle.rules.specs.Writing.{filled, row_of}
 use Rattle.rules.proofs.Numbers.{numbers-low, bytes-twice}
-use Rattle.rules.proofs.RowLaws.{Rowed, filled-length, row-length}
-use Rattle.rows.specs.Paper.{put_number, entry_shown, Showable, Showing}
+use Rattle.rules.proofs.RowLaws.{Rowed, filled-length}
+use Rattle.rows.specs.Paper.{put_number, Showing}
 use Rattle.rows.proofs.Stores.{put-among, zero-bytes}
 
 -- a row whose bytes are 0, and what follows them
@@ -26,7 +25,7 @@ module _ (k : Kind) (start row : List ℕ) (blank : row ≡ replicate (2 * k.wid
   -- The loop starts from it.
   pub show-opens : (ws : List ℕ) → Showing k ws (drop (2 * k.width) row) row 0
   unfolding filled
-  show-opens ws = record { counted = omega arith; shown = blank ∙ rw (zero-bytes k.width, rest-kept) }
+  show-opens ws = record { shown = blank ∙ rw (zero-bytes k.width, rest-kept) }
 
 -- .. at each number, past each, and past the last.
 module _ {k : Kind} {ws rest row : List ℕ} {i : ℕ} (s : Showing k ws rest row i) where
@@ -53,49 +52,11 @@ module _ {k : Kind} {ws rest row : List ℕ} {i : ℕ} (s : Showing k ws rest ro
     show-next row' e =
         let more : i + 1 ≡ suc i = omega arith in
         record {
-          counted = omega arith;
           shown =
               e ∙ ap (λ (b : List ℕ). put_number b p (get_or ws i 0)) s.shown
               ∙ put-among (filled k ws i) rest p (get_or ws i 0) inside ∙ rw (more, ← place);
         }
 
-  pub show-done : size_of k ws ≤ i → row ≡ number_bytes (row_of k ws) ++ rest
+  pub show-done : i ≡ size_of k ws → row ≡ number_bytes (row_of k ws) ++ rest
   unfolding row_of
-  show-done h = let e : i ≡ size_of k ws = omega (arith, s.counted) in s.shown ∙ rw e
-
-pub shown-length : (k : Kind) (ws start row : List ℕ) → 2 * k.width ≤ length start
-    → row ≡ number_bytes (row_of k ws) ++ drop (2 * k.width) start → length row ≡ length start
-shown-length k ws start row h e =
-    omega (
-      arith,
-      ap length e,
-      length-append (number_bytes (row_of k ws)) (drop (2 * k.width) start),
-      bytes-twice (row_of k ws),
-      row-length k ws,
-      length-drop (2 * k.width) start,
-    )
-
--- What each test leaves.
-module _ (k : Kind) (ws row : List ℕ) where
-  pub show-cut : length ws < size_of k ws → row ≡ entry_shown k ws row
-  show-cut h = rw (lt-leb (size_of k ws) (length ws) h)
-
-  pub show-long : size_of k ws ≤ length ws → k.width < size_of k ws → row ≡ entry_shown k ws row
-  show-long w h = rw (le-leb (size_of k ws) (length ws) w, lt-leb (size_of k ws) k.width h)
-
-  pub show-full : size_of k ws ≤ length ws → size_of k ws ≤ k.width → length (numbers_of row) < k.width
-      → row ≡ entry_shown k ws row
-  show-full w s h =
-      rw (
-        le-leb (size_of k ws) (length ws) w,
-        le-leb (size_of k ws) k.width s,
-        lt-leb k.width (length (numbers_of row)) h,
-      )
-
-  pub show-is : Showable k ws row → number_bytes (row_of k ws) ++ drop (2 * k.width) row ≡ entry_shown k ws row
-  show-is ready =
-      rw (
-        le-leb (size_of k ws) (length ws) ready.whole,
-        le-leb (size_of k ws) k.width ready.fits,
-        le-leb k.width (length (numbers_of row)) ready.room,
-      )
+  show-done e = s.shown ∙ rw e

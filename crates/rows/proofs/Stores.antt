@@ -1,27 +1,41 @@
 -- Numbers put into lent memory, and zeros.
 -- Assumes nothing.
-use Prim.Native.Nat.{ℕ, zero, suc, ◌+◌, ◌*◌, ◌-◌, ◌/◌, ◌%◌, ◌≤◌, ◌<◌}
+use Prim.Native.Nat.{ℕ, zero, suc, ◌+◌, ◌*◌, ◌/◌, ◌%◌, ◌≤◌, ◌<◌}
 use mathlib.Core.Path.{◌≡◌, refl, sym, ap, ◌∙◌}
 use mathlib.Core.List.{List, [], ◌∷◌, ◌++◌}
 use native.Mathlib.Omega.{arith}
-use lib.ListN.{length, set, drop, replicate, length-set, length-replicate}
-use lib.Seq.{sets, sets-eq}
+use borrow.Rule.Slice.PartMut.{put_mid}
+use lib.ListN.{length, get_or, set, take, drop, replicate}
+use lib.Seq.{sets, sets-eq, drop-drop, drop-cons}
+use Rattle.std.proofs.lemmas.List.{append_assoc}
 use Rattle.rules.specs.Numbers.{numbers_of, number_bytes}
-use Rattle.rules.proofs.Numbers.{bytes-twice}
-use Rattle.rows.specs.Paper.{put_number, Clearing}
+use Rattle.rules.proofs.Numbers.{bytes-twice, numbers-low, number-at}
+use Rattle.rows.specs.Paper.{put_number}
 
 twice-suc : (i : ℕ) → 2 * suc i ≡ suc (suc (2 * i))
 twice-suc i = omega arith
 
+-- a part of lent memory that is written over
+pub put-sets : (a k : ℕ) (xs ys : List ℕ) → length ys ≡ k → a + k ≤ length xs → put_mid a k xs ys ≡ sets xs a ys
+put-sets a k xs ys l h =
+    let e : drop k (drop a xs) ≡ drop (a + length ys) xs = drop-drop k a xs ∙ ap (λ (n : ℕ). drop (a + n) xs) (sym l) in
+    sym (sets-eq ys xs a (omega arith) ∙ append_assoc (take a xs) ys _ ∙ rw (← e))
+
 -- the two bytes of a number
-pub copied : (bytes : List ℕ) (at low high x : ℕ) → low < 256 → x ≡ low + 256 * high
-    → set (set bytes (2 * at) low) (2 * at + 1) high ≡ put_number bytes at x
+pub two-bytes : (b : List ℕ) (i : ℕ) → i < length (numbers_of b) → get_or b (2 * i) 0 < 256
+    → take 2 (drop (2 * i) b) ≡ number_bytes (get_or (numbers_of b) i 0 ∷ [])
 unfolding number_bytes
-copied bytes at low high x h e =
-    let a : low ≡ x % 256 = omega arith in
-    let b : high ≡ x / 256 = omega arith in
-    let c : 2 * at + 1 ≡ suc (2 * at) = omega arith in
-    rw (a, b, c)
+two-bytes b i h byte =
+    let low : ℕ = get_or b (2 * i) 0 in
+    let high : ℕ = get_or b (2 * i + 1) 0 in
+    let l : 2 * i < length b = omega (arith, numbers-low b) in
+    let m : 2 * i + 1 < length b = omega (arith, numbers-low b) in
+    let one : suc (2 * i) ≡ 2 * i + 1 = omega arith in
+    let x : get_or (numbers_of b) i 0 ≡ low + 256 * high = number-at b i h in
+    let p : low ≡ (low + 256 * high) % 256 = omega arith in
+    let q : high ≡ (low + 256 * high) / 256 = omega arith in
+    let more : drop (suc (2 * i)) b ≡ high ∷ drop (suc (2 * i + 1)) b = rw one (drop-cons b (2 * i + 1) 0 m) in
+    rw (drop-cons b (2 * i) 0 l, more, x, ← p, ← q)
 
 -- a number put among the bytes of numbers
 pub put-among : (xs rest : List ℕ) (p x : ℕ) → p < length xs
@@ -50,28 +64,3 @@ pub stored-first : (xs out : List ℕ) → 2 * length xs ≤ length out
 stored-first xs out h =
     let l : 0 + length (number_bytes xs) ≡ 2 * length xs = omega (arith, bytes-twice xs) in
     ap numbers_of (sets-eq (number_bytes xs) out 0 (omega arith)) ∙ rw l (numbers-first xs (drop (2 * length xs) out))
-
--- The loop that stores n zeros, before the first, past each, and past the last.
-pub clear-opens : (n : ℕ) (start : List ℕ) → Clearing n start start 0
-clear-opens n start =
-    let e : n - 0 ≡ n = omega arith in
-    record { counted = omega arith; long = refl; left = rw e }
-
-module _ {n : ℕ} {start row : List ℕ} {i : ℕ} (c : Clearing n start row i) where
-  pub clear-next : i < n → Clearing n start (set row i 0) (i + 1)
-  clear-next h =
-      let more : i + 1 ≡ suc i = omega arith in
-      let less : n - i ≡ suc (n - suc i) = omega arith in
-      record {
-        counted = omega arith;
-        long = length-set row i 0 ∙ c.long;
-        left = rw more (sym (rw less) ∙ c.left);
-      }
-
-  pub clear-done : n ≤ i → n ≤ length start → row ≡ replicate n 0 ++ drop n start
-  clear-done h l =
-      let none : n - i ≡ 0 = omega arith in
-      let zeros : List ℕ = replicate n 0 in
-      let all : length zeros ≡ n = length-replicate n 0 in
-      let w : 0 + length zeros ≡ n = omega arith in
-      sym (rw none) ∙ c.left ∙ sets-eq zeros start 0 (omega arith) ∙ ap (λ (k : ℕ). zeros ++ drop k start) w

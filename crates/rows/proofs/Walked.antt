@@ -7,6 +7,8 @@ use mathlib.Core.List.{List, [], ◌++◌}
 use native.Mathlib.Omega.{arith}
 use borrow.Author.Tests.{leb-true, le-leb}
 use lib.Dec.{leb}
+use Rattle.std.proofs.Common.{Option, Some, None, Result, Ok, Err}
+use Rattle.std.specs.Result.{result_ok}
 use lib.ListN.{length, get_or, take, drop, length-append, get_or-append}
 use lib.Seq.{sets, take_at, take-take, drop-cons, length-take-le}
 use Rattle.rules.specs.Numbers.{numbers_of, number_bytes}
@@ -18,19 +20,31 @@ use Rattle.rules.proofs.Steps.{entry-falls, entry-rises}
 use Rattle.rules.proofs.Walks.{entry-ends}
 use Rattle.rules.proofs.LookUp.{held}
 use Rattle.rules.proofs.RowLaws.{Rowed, in-row-key, in-row-size, in-row-length, in-row-taken, in-row-plain, own-entry}
+use Rattle.entry.specs.Paper.{walk_paper}
+use Rattle.entry.specs.declared.Fault.{Fault}
+use Rattle.entry.specs.declared.Fault.TheVariants.{Broken, Short}
 use Rattle.rows.specs.Paper.{row_in, row_size, end_of}
-use Rattle.rows.proofs.AnyRow.{row-whole, row-cut, row-in-size, any-rowed, key-inside, plain-place, plain-size}
+use Rattle.rows.proofs.AnyRow.{row-whole, row-cut, row-in-size, any-rowed, plain-place, plain-size}
 use Rattle.rows.proofs.Stores.{stored-first}
 
 -- an entry that ends has as many numbers as it says
 end-is : (k : Kind) (before e : List ℕ)
-    → cond (is_end (entry k before e)) (size_of k e) 0 ≡ end_of (entry k before e)
+    → cond (is_end (entry k before e)) (Some (size_of k e)) None ≡ end_of (entry k before e)
 end-is k before e = go (entry k before e) refl
   where
-    go : (w : Walk) → entry k before e ≡ w → cond (is_end w) (size_of k e) 0 ≡ end_of w
-    go (ends p) q = sym (entry-ends k before e p q).1
+    go : (w : Walk) → entry k before e ≡ w → cond (is_end w) (Some (size_of k e)) None ≡ end_of w
+    go (ends p) q = ap (λ (n : ℕ). Some n) (sym (entry-ends k before e p q).1)
     go (broken p) q = refl
     go short q = refl
+
+-- what the reader finds of one
+pub walk-read : (w : Result ℕ Fault) {r : Option ℕ} {e : Walk} → r ≡ result_ok w → walk_paper w ≡ e → r ≡ end_of e
+walk-read w told read = told ∙ go w ∙ ap end_of read
+  where
+    go : (w : Result ℕ Fault) → result_ok w ≡ end_of (walk_paper w)
+    go (Ok p) = refl
+    go (Err (Broken p)) = refl
+    go (Err Short) = refl
 
 -- .. and the number after its key is within its range
 end-fits : (k : Kind) → Rowed k → (before e : List ℕ) → is_end (entry k before e) ≡ true → size_of k e ≤ k.width
@@ -57,7 +71,7 @@ own-first k r before e rest l =
     sym own ∙ ap (entry k before) (take_at e rest (size_of k (e ++ rest)) (sym size))
 
 -- a row that is not whole
-pub walk-cut : (k : Kind) (before ws : List ℕ) → length ws < k.width → 0 ≡ row_size k before (row_in k ws)
+pub walk-cut : (k : Kind) (before ws : List ℕ) → length ws < k.width → None ≡ row_size k before (row_in k ws)
 unfolding row_right
 walk-cut k before ws h = rw (row-cut k ws h)
 
@@ -73,7 +87,7 @@ first-rises k r e = go (leb k.key (length e)) refl
         rw (drop-cons (key_of k e) 0 0 some)
     go false h = refl
 
-module _ (k : Kind) (r : Rowed k) (inside : k.key < k.width) (before ws : List ℕ) where
+module _ (k : Kind) (r : Rowed k) (before ws : List ℕ) where
   -- the key of a whole row is that of its entry
   key-same : k.width ≤ length ws → key_falls k before (entry_in_row k (row_in k ws)) ≡ key_falls k before ws
   unfolding key_falls
@@ -89,7 +103,7 @@ module _ (k : Kind) (r : Rowed k) (inside : k.key < k.width) (before ws : List �
       )
 
   -- one whose key does not rise
-  pub walk-falls : k.width ≤ length ws → key_falls k before ws ≡ true → 0 ≡ row_size k before (row_in k ws)
+  pub walk-falls : k.width ≤ length ws → key_falls k before ws ≡ true → None ≡ row_size k before (row_in k ws)
   unfolding row_right
   walk-falls w h = rw (entry-falls k before (entry_in_row k (row_in k ws)) (key-same w ∙ h), row-whole k ws w)
 
@@ -103,7 +117,7 @@ module _ (k : Kind) (r : Rowed k) (inside : k.key < k.width) (before ws : List �
         entry-rises k [] (entry_in_row k (row_in k ws)) (first-rises k r (entry_in_row k (row_in k ws))),
       )
 
-module _ (k : Kind) (r : Rowed k) (inside : k.key < k.width) (ws : List ℕ) where
+module _ (k : Kind) (r : Rowed k) (ws : List ℕ) where
   abbrev before : List ℕ
   before = []
 
@@ -114,7 +128,7 @@ module _ (k : Kind) (r : Rowed k) (inside : k.key < k.width) (ws : List ℕ) whe
   numbers-are e = sym (entry-rises k [] e (first-rises k r e))
 
   -- one that says a longer entry than a row has
-  pub walk-long : k.width < size_of k ws → 0 ≡ row_size k before row
+  pub walk-long : k.width < size_of k ws → None ≡ row_size k before row
   unfolding row_right
   walk-long h = rw wrong
     where
@@ -127,7 +141,7 @@ module _ (k : Kind) (r : Rowed k) (inside : k.key < k.width) (ws : List ℕ) whe
             end-fits k r before (entry_in_row k row)
                 (and-right (leb k.width (length row)) (is_end (entry k before (entry_in_row k row))) t),
             in-row-size k r row,
-            row-in-size k ws inside,
+            row-in-size k ws r.wide,
           ))
 
   -- one that is whole, by its entry
@@ -136,7 +150,7 @@ module _ (k : Kind) (r : Rowed k) (inside : k.key < k.width) (ws : List ℕ) whe
   unfolding row_right
   walk-is w s =
       sym (end-is k before (entry_in_row k ws))
-      ∙ rw (row-whole k ws w, (in-row-taken k r ws s).1, row-in-size k ws inside, in-row-size k r ws)
+      ∙ rw (row-whole k ws w, (in-row-taken k r ws s).1, row-in-size k ws r.wide, in-row-size k r ws)
 
   -- .. which stands in it as in the book
   pub walk-plain : ((i : ℕ) → k.in_row (get_or ws k.key 0) i ≡ i) → k.width ≤ length ws → size_of k ws ≤ k.width
@@ -162,13 +176,13 @@ module _ (k : Kind) (r : Rowed k) (inside : k.key < k.width) (ws : List ℕ) whe
       ∙ walk-is w s
 
 -- the numbers of a row that is not staged, read with the number of its kind
-pub walk-as : (kind j : ℕ) (ws : List ℕ) {r : ℕ} {w : Walk} → kind_at kind ≡ kind_at j → (j ≡ 1 → ⊥) → r ≡ end_of w
-    → w ≡ numbers_from (kind_at j) ws (size_of (kind_at j) ws) 0 → (kind_at kind).width ≤ length ws
-    → r ≡ row_size (kind_at kind) [] (row_in (kind_at kind) ws)
-walk-as kind j ws same plain told read whole =
+pub walk-as : (kind j : ℕ) (ws : List ℕ) {r : Option ℕ} → kind_at kind ≡ kind_at j → (w : Result ℕ Fault)
+    → (j ≡ 1 → ⊥) → r ≡ result_ok w → walk_paper w ≡ numbers_from (kind_at j) ws (size_of (kind_at j) ws) 0
+    → (kind_at kind).width ≤ length ws → r ≡ row_size (kind_at kind) [] (row_in (kind_at kind) ws)
+walk-as kind j ws same w plain told read whole =
     let m = get_or ws (kind_at j).key 0 in
     let l : (kind_at j).width ≤ length ws = rw same at whole in
     rw same
-    (told ∙ ap end_of read
-    ∙ walk-plain (kind_at j) (any-rowed j) (key-inside j) ws (λ i. plain-place m i j plain) l
+    (walk-read w told read
+    ∙ walk-plain (kind_at j) (any-rowed j) ws (λ i. plain-place m i j plain) l
     (omega (arith, plain-size m j plain)))

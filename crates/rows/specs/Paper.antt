@@ -1,6 +1,6 @@
 -- What checking a row, laying its entry, and showing an entry as a row come to. Definitions only.
-use Rattle.std.specs.Prelude.{ℕ, ◌+◌, ◌*◌, ◌-◌, ◌≤◌, ◌≡◌, Bool, cond, ◌&&◌, List, [], ◌∷◌, ◌++◌, leb, length, take}
-use Rattle.std.specs.Prelude.{drop, replicate}
+use Rattle.std.specs.Prelude.{ℕ, ◌+◌, ◌*◌, ◌≤◌, ◌≡◌, Bool, cond, ◌&&◌, List, [], ◌∷◌, ◌++◌, leb, length, take}
+use Rattle.std.specs.Prelude.{drop, Option, Some, None}
 use Rattle.std.proofs.lemmas.List.Edits.{sets}
 use Rattle.rules.specs.Numbers.{numbers_of, number_bytes}
 use Rattle.rules.specs.Book.{Kind, Walk, ends, broken, short, size_of}
@@ -14,15 +14,15 @@ put_number bytes at x = sets bytes (2 * at) (number_bytes (x ∷ []))
 abbrev pub row_in : Kind → List ℕ → List ℕ
 row_in k ws = take k.width ws
 
--- how many numbers the entry of a row has, where it is right after one with the key before; else 0
-abbrev pub row_size : Kind → List ℕ → List ℕ → ℕ
-row_size k before row = cond (row_right k before row) (size_of k row) 0
+-- how many numbers the entry of a row has, where it is right after one with the key before
+abbrev pub row_size : Kind → List ℕ → List ℕ → Option ℕ
+row_size k before row = cond (row_right k before row) (Some (size_of k row)) None
 
--- how many numbers an entry has, by what reading it comes to; 0 where it does not end
-abbrev pub end_of : Walk → ℕ
-end_of (ends p) = p
-end_of (broken p) = 0
-end_of short = 0
+-- how many numbers an entry has that ends, by what reading it comes to
+abbrev pub end_of : Walk → Option ℕ
+end_of (ends p) = Some p
+end_of (broken p) = None
+end_of short = None
 
 -- is the row whole, its entry no longer than it, and is there room for the entry from place `at` on?
 abbrev pub lay_fits : Kind → List ℕ → ℕ → List ℕ → Bool
@@ -51,16 +51,9 @@ pub record Layable (k : Kind) (ws : List ℕ) (at : ℕ) (out : List ℕ) : Type
 
 -- The loop that lays an entry: i of its numbers are laid, and what is left to lay makes the whole of it.
 pub record Laying (k : Kind) (ws : List ℕ) (at : ℕ) (start : List ℕ) (out : List ℕ) (i : ℕ) : Type 0 where
-  pub counted : i ≤ size_of k ws
   pub long : length out ≡ length start
   pub left : sets out (2 * (at + i)) (number_bytes (drop i (entry_in_row k ws)))
       ≡ sets start (2 * at) (number_bytes (entry_in_row k ws))
-
--- The loop that stores n zeros from the start: i are stored, and what is left to store makes all of them.
-pub record Clearing (n : ℕ) (start row : List ℕ) (i : ℕ) : Type 0 where
-  pub counted : i ≤ n
-  pub long : length row ≡ length start
-  pub left : sets row i (replicate (n - i) 0) ≡ sets start 0 (replicate n 0)
 
 -- The entry that a stretch begins with is whole and no longer than a row, and there is room for a row.
 pub record Showable (k : Kind) (ws : List ℕ) (row : List ℕ) : Type 0 where
@@ -70,5 +63,4 @@ pub record Showable (k : Kind) (ws : List ℕ) (row : List ℕ) : Type 0 where
 
 -- The loop that shows an entry: i of its numbers stand in the row, 0 in its other places, and the rest follows.
 pub record Showing (k : Kind) (ws : List ℕ) (rest : List ℕ) (row : List ℕ) (i : ℕ) : Type 0 where
-  pub counted : i ≤ size_of k ws
   pub shown : row ≡ number_bytes (filled k ws i) ++ rest

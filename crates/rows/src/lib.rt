@@ -1,20 +1,19 @@
 #![tactic(auto)]
 
 // One entry of a plan book as a row of numbers: would the reader take it, laid in the order of the book, and shown.
-ghost use Rattle.std.specs.Prelude.{◌≡◌, ◌+◌, ◌*◌, ◌≤◌, ◌<◌, [], ◌++◌, length, get_or, drop, replicate};
+ghost use Rattle.std.specs.Prelude.{◌≡◌, ◌+◌, ◌*◌, ◌≤◌, ◌<◌, [], ◌++◌, length, get_or, drop};
 ghost use Rattle.std.proofs.lemmas.List.Edits.{sets};
 ghost use Rattle.rules.specs.Numbers.{numbers_of, number_bytes};
 ghost use Rattle.rules.specs.Book.{kind_at, staged, key_of};
 ghost use Rattle.rules.specs.Writing.{entry_in_row, row_of};
-ghost use Rattle.entry.specs.Paper.{walk_paper};
-ghost use Rattle.rows.specs.Paper.{put_number, row_in, row_size, end_of, entry_laid, entry_shown, Layable, Showable};
+ghost use Rattle.rows.specs.Paper.{put_number, row_in, row_size, entry_laid, entry_shown, Layable, Showable};
 
-use entry::{REDUCED, SEQUENTIAL, STAGED, VARIABLES, Walk};
+use entry::{REDUCED, SEQUENTIAL, STAGED, VARIABLES};
 
 // A staged row, which is the longest, has 25 numbers.
 const LONGEST: usize = 50;
 
-// How many numbers a row has.
+// How many numbers a row has. A kind is a number: a caller may hand over any.
 pub fn row_width(kind: usize) -> usize
     ensures { (result ≡ (kind_at kind).width) × (result ≤ 25) }
 {
@@ -50,15 +49,14 @@ fn copy_number(from: &[u8], i: usize, to: &mut [u8], at: usize)
     requires { (2 * i + 1 < length from.now) × (2 * at + 1 < length to.old) }
     ensures { to.new ≡ put_number to.old at (get_or (numbers_of from.now) i 0) }
 {
-    to[2 * at] = from[2 * i];
-    to[2 * at + 1] = from[2 * i + 1];
+    to[2 * at..2 * at + 2].copy_from_slice(&from[2 * i..2 * i + 2]);
 }
 
 // The number after the key of the row or the entry that e begins with.
 fn after_key(kind: usize, e: &[u8]) -> u16
     ensures { result ≡ get_or (numbers_of e.now) (kind_at kind).key 0 }
 {
-    numbers::number(e, entry::key_len(kind)) as u16
+    numbers::number(e, entry::key_len(kind))
 }
 
 // The entry of a row, laid from place `at` on, where there is room for it.
@@ -69,25 +67,8 @@ fn lay(kind: usize, row: &[u8], out: &mut [u8], at: usize)
 {
     let after = after_key(kind, row);
     let size = entry::size_at(kind, row);
-    let mut i = 0;
-    while i < size {
-        let from = row_place(kind, after, i);
-        copy_number(row, from, out, at + i);
-        i += 1;
-    }
-}
-
-// The same, with each kind as a constant, so that the loop is compiled for it alone.
-fn lay_as(kind: usize, row: &[u8], out: &mut [u8], at: usize)
-    requires { Layable (kind_at kind) (numbers_of row.now) at out.old }
-    ensures { out.new
-        ≡ sets out.old (2 * at) (number_bytes (entry_in_row (kind_at kind) (numbers_of row.now))) }
-{
-    match kind {
-        REDUCED => lay(REDUCED, row, out, at),
-        STAGED => lay(STAGED, row, out, at),
-        SEQUENTIAL => lay(SEQUENTIAL, row, out, at),
-        _ => lay(VARIABLES, row, out, at),
+    for i in 0..size {
+        copy_number(row, row_place(kind, after, i), out, at + i);
     }
 }
 
@@ -112,73 +93,50 @@ pub fn lay_entry(kind: usize, row: &[u8], out: &mut [u8], at: usize)
     if room - at < size {
         return;
     }
-    lay_as(kind, row, out, at);
-}
-
-// How many numbers an entry has that ends; else 0.
-fn end_of(walk: Walk) -> usize
-    ensures { result ≡ end_of (walk_paper walk) }
-{
-    match walk {
-        Walk::Ends(size) => size,
-        Walk::Broken(_) => 0,
-        Walk::Short => 0,
-    }
+    lay(kind, row, out, at);
 }
 
 // The numbers of a whole staged row: the entry is laid in the order of the book, and then read.
-fn walk_staged(row: &[u8]) -> usize
+fn walk_staged(row: &[u8]) -> Option<usize>
     requires { staged.width ≤ length (numbers_of row.now) }
     ensures { result ≡ row_size staged [] (row_in staged (numbers_of row.now)) }
 {
     if row_width(STAGED) < entry::size_at(STAGED, row) {
-        return 0;
+        return None;
     }
     let mut laid = [0u8; LONGEST];
     lay(STAGED, row, &mut laid, 0);
-    end_of(entry::entry_numbers(STAGED, &laid))
+    entry::entry_numbers(STAGED, &laid).ok()
 }
 
 // The numbers of the row that `row` begins with, whatever stood before it. Each kind goes on as a constant, so that the
 // reader's loop is compiled for it alone; and not by `walk_entry`, which the check of a book has to itself.
-fn walk_numbers(kind: usize, row: &[u8]) -> usize
+fn walk_numbers(kind: usize, row: &[u8]) -> Option<usize>
     requires { (kind_at kind).width ≤ length (numbers_of row.now) }
     ensures { result ≡ row_size (kind_at kind) [] (row_in (kind_at kind) (numbers_of row.now)) }
 {
     match kind {
-        REDUCED => end_of(entry::entry_numbers(REDUCED, row)),
+        REDUCED => entry::entry_numbers(REDUCED, row).ok(),
         STAGED => walk_staged(row),
-        SEQUENTIAL => end_of(entry::entry_numbers(SEQUENTIAL, row)),
-        _ => end_of(entry::entry_numbers(VARIABLES, row)),
+        SEQUENTIAL => entry::entry_numbers(SEQUENTIAL, row).ok(),
+        _ => entry::entry_numbers(VARIABLES, row).ok(),
     }
 }
 
 // How many numbers the entry of the row that `row` begins with has, where the reader would take it after the entry
-// that `before` begins with (none where that is empty); else 0.
-pub fn walk_row(kind: usize, before: &[u8], row: &[u8]) -> usize
+// that `before` begins with (none where that is empty).
+pub fn walk_row(kind: usize, before: &[u8], row: &[u8]) -> Option<usize>
     ensures { result
         ≡ row_size (kind_at kind) (key_of (kind_at kind) (numbers_of before.now))
         (row_in (kind_at kind) (numbers_of row.now)) }
 {
     if numbers::count(row) < row_width(kind) {
-        return 0;
+        return None;
     }
     if entry::key_falls(kind, before, row) {
-        return 0;
+        return None;
     }
     walk_numbers(kind, row)
-}
-
-// The first bytes of a row, made 0.
-fn clear(row: &mut [u8], bytes: usize)
-    requires { bytes ≤ length row.old }
-    ensures { row.new ≡ replicate bytes 0 ++ drop bytes row.old }
-{
-    let mut i = 0;
-    while i < bytes {
-        row[i] = 0;
-        i += 1;
-    }
 }
 
 // The row of an entry, where there is room for it.
@@ -191,12 +149,9 @@ fn show(kind: usize, e: &[u8], row: &mut [u8])
     let after = after_key(kind, e);
     let size = entry::size_at(kind, e);
     let width = row_width(kind);
-    clear(row, 2 * width);
-    let mut i = 0;
-    while i < size {
-        let to = row_place(kind, after, i);
-        copy_number(e, i, row, to);
-        i += 1;
+    row[..2 * width].fill(0);
+    for i in 0..size {
+        copy_number(e, i, row, row_place(kind, after, i));
     }
 }
 

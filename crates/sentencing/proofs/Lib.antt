@@ -1,4 +1,5 @@
-mod OneLimit
+pub mod OneLimit
 pub mod OneResult
+mod Records
 pub mod Sharing
 pub mod Verdicts

@@ -1,64 +1,69 @@
--- Each promise of a public function admits one result: answers with the same numbers and values are the same, since
--- the documents' answer tells the code's. Those of single lots are judged-one and closed-one (closing), those of plans
--- stand in choosing.
+-- Each promise of a public function admits one result, since the documents' answer tells the code's, where the plan's
+-- own paper tells the plan. Those of plans stand in choosing.
 -- Assumes nothing.
-use mathlib.Core.Path.{◌≡◌, ap}
-use Rattle.rules.proofs.Answers.{read-back}
-use Rattle.plans.specs.declared.VerdictAnswer.{VerdictAnswer}
-use Rattle.plans.specs.Paper.{fractional_paper}
-use Rattle.plans.proofs.OneResult.{fractional_back}
-use Rattle.entry.proofs.OneResult.{staged_back, sequential_back, variables_back, sides_back}
+use mathlib.Core.Path.{◌≡◌, refl}
+use Rattle.std.specs.Prelude.{Result}
+use Rattle.refusals.specs.declared.Refusal.{Refusal}
+use Rattle.refusals.specs.Paper.{answer_by}
+use Rattle.refusals.proofs.OneResult.{answer-one}
+use Rattle.plans.specs.declared.SinglePlan.{SinglePlan}
+use Rattle.plans.specs.declared.FractionalPlan.{FractionalPlan}
+use Rattle.plans.specs.declared.Judged.{Judged}
+use Rattle.plans.specs.Paper.{plan_paper, fractional_paper, judged_by}
+use Rattle.plans.proofs.OneResult.{plan_back, fractional_back, judged_back, judged-back}
+use Rattle.entry.specs.declared.StagedPlan.{StagedPlan}
+use Rattle.entry.specs.declared.SequentialPlan.{SequentialPlan}
+use Rattle.entry.specs.declared.VariablesPlan.{VariablesPlan}
+use Rattle.entry.specs.declared.SidesPlan.{SidesPlan}
 use Rattle.entry.specs.Paper.{staged_paper, sequential_paper, variables_paper, sides_paper}
-use Rattle.closing.specs.declared.ClosedAnswer.{ClosedAnswer}
-use Rattle.closing.proofs.OneResult.{judged_back, judged-back, closed_back, closed-back}
-use Rattle.sentencing.specs.declared.judging.StagedJudged.{StagedJudged}
-use Rattle.sentencing.specs.declared.judging.SequentialJudged.{SequentialJudged}
-use Rattle.sentencing.specs.declared.readings.VariablesJudged.{VariablesJudged}
-use Rattle.sentencing.specs.declared.readings.SidesJudged.{SidesJudged}
-use Rattle.sentencing.specs.declared.closings.StagedClosed.{StagedClosed}
-use Rattle.sentencing.specs.declared.fractional.FractionalJudged.{FractionalJudged}
-use Rattle.sentencing.specs.declared.fractional.FractionalClosed.{FractionalClosed}
-use Rattle.sentencing.specs.Paper.{staged_judged, sequential_judged, variables_judged, sides_judged, staged_closed}
-use Rattle.sentencing.specs.Paper.{fractional_judged, fractional_closed}
+use Rattle.entry.proofs.OneResult.{sequential_back, variables_back, sides_back}
+use Rattle.choosing.proofs.OneResult.{staged_back, staged-back}
+use Rattle.closing.specs.declared.Closed.{Closed}
+use Rattle.closing.specs.Paper.{closed_by}
+use Rattle.closing.proofs.OneResult.{closed-one}
 
-pub staged-judged-one : (a b : StagedJudged) → staged_judged a ≡ staged_judged b → a ≡ b
-staged-judged-one =
-    read-back staged_judged (λ b. record { answer = judged_back b.answer; plan = staged_back b.plan })
-    (λ a. ap (λ (x : VerdictAnswer). record { answer = x; plan = a.plan })
-    (judged-back (staged_paper a.plan) a.answer))
+pub fractional-planned-one : (a b : Result FractionalPlan Refusal)
+    → answer_by fractional_paper a ≡ answer_by fractional_paper b → a ≡ b
+fractional-planned-one = answer-one fractional_paper fractional_back (λ p. refl)
 
-pub sequential-judged-one : (a b : SequentialJudged) → sequential_judged a ≡ sequential_judged b → a ≡ b
-sequential-judged-one =
-    read-back sequential_judged (λ b. record { answer = judged_back b.answer; plan = sequential_back b.plan })
-    (λ a. ap (λ (x : VerdictAnswer). record { answer = x; plan = a.plan })
-    (judged-back (sequential_paper a.plan) a.answer))
+module _ {P A : Type 0} (plan_of : P → A) (back : A → P) (same : (p : P) → back (plan_of p) ≡ p) where
+  judged-one : (a b : Result (Judged P) Refusal)
+      → answer_by (judged_by plan_of) a ≡ answer_by (judged_by plan_of) b → a ≡ b
+  judged-one = answer-one (judged_by plan_of) (judged_back plan_of back same) (judged-back plan_of back same)
 
-pub variables-judged-one : (a b : VariablesJudged) → variables_judged a ≡ variables_judged b → a ≡ b
-variables-judged-one =
-    read-back variables_judged (λ b. record { answer = judged_back b.answer; plan = variables_back b.plan })
-    (λ a. ap (λ (x : VerdictAnswer). record { answer = x; plan = a.plan })
-    (judged-back (variables_paper a.plan) a.answer))
+pub single-judged-one : (a b : Result (Judged SinglePlan) Refusal)
+    → answer_by (judged_by plan_paper) a ≡ answer_by (judged_by plan_paper) b → a ≡ b
+single-judged-one = judged-one plan_paper plan_back (λ p. refl)
 
-pub sides-judged-one : (a b : SidesJudged) → sides_judged a ≡ sides_judged b → a ≡ b
-sides-judged-one =
-    read-back sides_judged (λ b. record { answer = judged_back b.answer; plan = sides_back b.plan })
-    (λ a. ap (λ (x : VerdictAnswer). record { answer = x; plan = a.plan })
-    (judged-back (sides_paper a.plan) a.answer))
+pub staged-judged-one : (a b : Result (Judged StagedPlan) Refusal)
+    → answer_by (judged_by staged_paper) a ≡ answer_by (judged_by staged_paper) b → a ≡ b
+staged-judged-one = judged-one staged_paper staged_back staged-back
 
-pub staged-closed-one : (a b : StagedClosed) → staged_closed a ≡ staged_closed b → a ≡ b
-staged-closed-one =
-    read-back staged_closed (λ b. record { answer = closed_back b.answer; plan = staged_back b.plan })
-    (λ a. ap (λ (x : ClosedAnswer). record { answer = x; plan = a.plan })
-    (closed-back (staged_paper a.plan) a.answer))
+pub sequential-judged-one : (a b : Result (Judged SequentialPlan) Refusal)
+    → answer_by (judged_by sequential_paper) a ≡ answer_by (judged_by sequential_paper) b → a ≡ b
+sequential-judged-one = judged-one sequential_paper sequential_back (λ p. refl)
 
-pub fractional-judged-one : (a b : FractionalJudged) → fractional_judged a ≡ fractional_judged b → a ≡ b
-fractional-judged-one =
-    read-back fractional_judged (λ b. record { answer = judged_back b.answer; plan = fractional_back b.plan })
-    (λ a. ap (λ (x : VerdictAnswer). record { answer = x; plan = a.plan })
-    (judged-back (fractional_paper a.plan) a.answer))
+pub variables-judged-one : (a b : Result (Judged VariablesPlan) Refusal)
+    → answer_by (judged_by variables_paper) a ≡ answer_by (judged_by variables_paper) b → a ≡ b
+variables-judged-one = judged-one variables_paper variables_back (λ p. refl)
 
-pub fractional-closed-one : (a b : FractionalClosed) → fractional_closed a ≡ fractional_closed b → a ≡ b
-fractional-closed-one =
-    read-back fractional_closed (λ b. record { answer = closed_back b.answer; plan = fractional_back b.plan })
-    (λ a. ap (λ (x : ClosedAnswer). record { answer = x; plan = a.plan })
-    (closed-back (fractional_paper a.plan) a.answer))
+pub sides-judged-one : (a b : Result (Judged SidesPlan) Refusal)
+    → answer_by (judged_by sides_paper) a ≡ answer_by (judged_by sides_paper) b → a ≡ b
+sides-judged-one = judged-one sides_paper sides_back (λ p. refl)
+
+pub fractional-judged-one : (a b : Result (Judged FractionalPlan) Refusal)
+    → answer_by (judged_by fractional_paper) a ≡ answer_by (judged_by fractional_paper) b → a ≡ b
+fractional-judged-one = judged-one fractional_paper fractional_back (λ p. refl)
+
+-- of close_single and close_curtailed
+pub single-closed-one : (a b : Result (Closed SinglePlan) Refusal)
+    → answer_by (closed_by plan_paper) a ≡ answer_by (closed_by plan_paper) b → a ≡ b
+single-closed-one = closed-one plan_paper plan_back (λ p. refl)
+
+pub staged-closed-one : (a b : Result (Closed StagedPlan) Refusal)
+    → answer_by (closed_by staged_paper) a ≡ answer_by (closed_by staged_paper) b → a ≡ b
+staged-closed-one = closed-one staged_paper staged_back staged-back
+
+pub fractional-closed-one : (a b : Result (Closed FractionalPlan) Refusal)
+    → answer_by (closed_by fractional_paper) a ≡ answer_by (closed_by fractional_paper) b → a ≡ b
+fractional-closed-one = closed-one fractional_paper fractional_back (λ p. refl)

@@ -1,4 +1,5 @@
--- A verdict beside its plan, by what planning and judging the sample promise: one law for every kind of plan.
+-- A verdict with its plan, by what planning and judging the sample promise: for each kind of plan how it is refused as
+-- its plan is, and how a plan that is given is judged as one that is handed over.
 -- Assumes nothing.
 use Prim.Native.Nat.{ℕ, ◌<◌}
 use mathlib.Core.Path.{◌≡◌, refl, sym, ap, ◌∙◌}
@@ -6,81 +7,45 @@ use mathlib.Core.Bool.{Bool, true, false}
 use mathlib.Core.List.{List}
 use native.Mathlib.Omega.{arith}
 use borrow.Author.Tests.{le-ltb}
+use lib.IntN.{ℤ}
 use Rattle.rules.specs.Refusals.{Answer, refused, given, and_then}
-use Rattle.rules.specs.Verdict.{Verdict, Judged}
-use Rattle.rules.specs.Severity.{Event}
-use Rattle.rules.specs.Supply.{Supply, supply_in_range}
-use Rattle.rules.specs.Book.{Checked, sound, broken_at, check_book, on_sound}
+use Rattle.rules.specs.Verdict.{Verdict}
 use Rattle.rules.specs.Single.{Plan, judge_items}
-use Rattle.rules.specs.Curtailed.{judge_until_lost}
 use Rattle.rules.specs.Staged.{StagedPlan, judge_stages}
-use Rattle.rules.specs.Limits.{Spread, Limits, SidesPlan, side_of, judge_readings}
-use Rattle.rules.specs.Entries.{Asked, judged_on, single_plan, fractional_plan, staged_plan, sides_plan, Lettered}
-use Rattle.rules.specs.Entries.{lettered, single_sample, staged_sample, readings_sample, section_for, judge_single}
-use Rattle.rules.specs.Entries.{judge_staged}
-use Rattle.rules.specs.Entries.{Offered, asked_on, on_supply, Closed, closed_with, single_event, staged_event}
-use Rattle.rules.specs.Entries.{close_single}
-use Rattle.rules.specs.Entries.{close_staged, curtailed_plan, curtailed_sample, judge_curtailed, close_curtailed}
-use Rattle.rules.proofs.Answers.{refused-given, given-one}
+use Rattle.rules.specs.Sequential.{SequentialPlan, judge_sequence}
+use Rattle.rules.specs.Variables.{VariablesPlan}
+use Rattle.rules.specs.Limits.{Spread, estimated, known, Limits, one, both, SidesPlan, sides_of, side_of}
+use Rattle.rules.specs.Limits.{judge_readings}
+use Rattle.rules.specs.Entries.{Asked, judged_on, single_plan, curtailed_plan, staged_plan, sequential_plan}
+use Rattle.rules.specs.Entries.{readings_plan, sides_plan, section_for, Lettered, lettered, single_sample}
+use Rattle.rules.specs.Entries.{curtailed_sample, staged_sample, readings_sample, judge_single, judge_curtailed}
+use Rattle.rules.specs.Entries.{judge_staged, judge_sequential, judge_limit, judge_sides}
 use Rattle.rules.proofs.Demands.Two.{single-plan-given, staged-plan-given}
 use Rattle.rules.proofs.Demands.Curtailed.{in-column, curtailed-plan-given}
-use Rattle.rules.proofs.GivenPlans.{sides-given}
+use Rattle.rules.proofs.GivenPlans.{readings-given, sides-given}
 use Rattle.rules.proofs.HeldPlans.{variables-could}
-use Rattle.plans.specs.declared.Outcome.{Outcome}
-use Rattle.plans.specs.declared.Outcome.TheVariants as outcomes
-use Rattle.plans.specs.declared.VerdictAnswer.{VerdictAnswer}
-use Rattle.plans.specs.declared.VerdictAnswer.TheVariants as verdicts
-use Rattle.plans.specs.Paper.{Beside, beside, outcome_on, verdict_answer, verdict_on, itself, zero_plan}
-use Rattle.plans.proofs.Standing.{beside-answer, planned-refused, planned-given}
-use Rattle.entry.specs.Paper.{no_stages}
-use Rattle.closing.specs.Paper.{plan_judged, plan_closed}
-use Rattle.choosing.specs.Paper.{without_letter, planned}
-use Rattle.choosing.proofs.Supplies.{refused-alike, checked-once}
+use Rattle.choosing.specs.Paper.{section_if}
+use Rattle.sentencing.specs.Paper.{is_known}
 
--- The plan of a lot, by what planning it promises: beside its outcome, with or without its letter.
-module _ {P : Type 0} (zeros : P) (a : Answer P) (o : Outcome) (plan : P)
-    (h : record { answer = outcome_on o plan; plan = plan } ≡ beside zeros itself a) where
-  pub single-refused : (n p : ℕ) → o ≡ outcomes.Refused n p → a ≡ refused n p
-  single-refused n p e = sym (planned-refused zeros h e)
+-- a plan without its letter
+unlettered : {P : Type 0} (q : Asked) (a : Answer P) (x : Answer (Lettered P)) → x ≡ lettered q a
+    → and_then x (λ y. given y.plan) ≡ a
+unlettered {P} q a x e = ap (λ (y : Answer (Lettered P)). and_then y (λ z. given z.plan)) e ∙ back a
+  where
+    back : (a : Answer P) → and_then (lettered q a) (λ z. given z.plan) ≡ a
+    back (refused n p) = refl
+    back (given y) = refl
 
-  pub single-given : o ≡ outcomes.Given → a ≡ given plan
-  single-given e = sym (planned-given zeros h e)
+-- a plan and then the verdict on it, where a plan that is given has its sample judged as any
+module _ {P : Type 0} (plan : Answer P) (sample judge : P → Answer Verdict)
+    (same : (x : P) → given x ≡ plan → sample x ≡ judge x) where
+  pub judged : (x : P) → given x ≡ plan → (a : Answer Verdict) → a ≡ sample x
+      → and_then a (λ v. given (record { plan = x; verdict = v })) ≡ and_then plan (judged_on judge)
+  judged x e a h = rw (← e, h ∙ same x e)
 
-module _ {P : Type 0} (zeros : P) (q : Asked) (a : Answer P) (o : Outcome) (l : ℕ) (plan : P)
-    (h : planned o l plan ≡ beside (without_letter zeros) itself (lettered q a)) where
-  answered : outcome_on o (record { letter = l; plan = plan }) ≡ lettered q a
-  answered = beside-answer (without_letter zeros) itself _ _ h
-
-  pub lettered-refused : (n p : ℕ) → o ≡ outcomes.Refused n p → a ≡ refused n p
-  lettered-refused n p e = go a (rw e at answered)
-    where
-      go : (x : Answer P) → refused n p ≡ lettered q x → x ≡ refused n p
-      go (refused m k) f = cc
-      go (given y) f = absurd (refused-given f)
-
-  pub lettered-given : o ≡ outcomes.Given → a ≡ given plan
-  lettered-given e = go a (rw e at answered)
-    where
-      go : (x : Answer P) → given (record { letter = l; plan = plan }) ≡ lettered q x → x ≡ given plan
-      go (refused m k) f = absurd (refused-given (sym f))
-      go (given y) f = ap (λ (b : Lettered P). given b.plan) (sym (given-one f))
-
--- a verdict on the plan beside it is the verdict of its sample
-pub on-plan : {P : Type 0} (answer : VerdictAnswer) (p : P)
-    → verdict_on answer p ≡ and_then (verdict_answer answer) (λ v. given (record { plan = p; verdict = v }))
-on-plan (verdicts.Refused n k) p = refl
-on-plan (verdicts.Given v) p = refl
-
-module _ {P : Type 0} (plan : Answer P) (judge : P → Answer Verdict) where
-  pub judged-refused : (n p : ℕ) → plan ≡ refused n p → refused n p ≡ and_then plan (judged_on judge)
-  judged-refused n p e = rw e
-
-  pub judged-given : (p : P) (answer : VerdictAnswer) → plan ≡ given p → verdict_answer answer ≡ judge p
-      → verdict_on answer p ≡ and_then plan (judged_on judge)
-  judged-given p answer e h =
-      on-plan answer p
-      ∙ ap (λ (x : Answer Verdict). and_then x (λ v. given (record { plan = p; verdict = v }))) h
-      ∙ ap (λ (x : Answer P). and_then x (judged_on judge)) (sym e)
+pub unplanned : {P : Type 0} (plan : Answer P) (judge : P → Answer Verdict) (n p : ℕ) → refused n p ≡ plan
+    → refused n p ≡ and_then plan (judged_on judge)
+unplanned plan judge n p e = rw (← e)
 
 -- A sample of a column that stands is judged as on any single plan.
 pub items-in-column : (column : ℕ) (p : Plan) (sample : List ℕ) → column < 26
@@ -88,139 +53,113 @@ pub items-in-column : (column : ℕ) (p : Plan) (sample : List ℕ) → column <
 unfolding single_sample
 items-in-column column p sample h = rw (le-ltb 25 column (omega arith))
 
--- A plan that an entry gives is judged as it is handed over.
-module _ (q : Asked) (book sample : List ℕ) where
-  pub single-sample : (p : Plan) → single_plan q book ≡ given p
-      → single_sample q.column p sample ≡ judge_items q.column p sample
-  single-sample p h = items-in-column q.column p sample ((single-plan-given q book p).0 h).lot.column
+-- Each kind of sample: as its plan is refused, ..
+module _ (q : Asked) (book sample : List ℕ) (n p : ℕ) where
+  pub single-unplanned : refused n p ≡ single_plan q book → refused n p ≡ judge_single q book sample
+  unfolding judge_single
+  single-unplanned = unplanned _ _ n p
 
-  pub curtailed-sample : (p : Plan) → curtailed_plan q book ≡ given p
-      → curtailed_sample q.column p sample ≡ judge_until_lost q.column p sample
-  curtailed-sample p h =
-      let lot = ((curtailed-plan-given q book p).0 h).planned.lot in
-      in-column q.column p (omega (arith, lot.column)) sample
+  pub curtailed-unplanned : refused n p ≡ curtailed_plan q book → refused n p ≡ judge_curtailed q book sample
+  unfolding judge_curtailed
+  curtailed-unplanned = unplanned _ _ n p
 
-  pub staged-sample : (p : StagedPlan) → staged_plan q book ≡ given p
-      → staged_sample q.column p sample ≡ judge_stages q.column p sample
-  unfolding staged_sample
-  staged-sample p h =
-      let lot = ((staged-plan-given q book p).0 h).lot in
-      rw (le-ltb 25 q.column (omega (arith, lot.column)))
+  pub staged-unplanned : refused n p ≡ lettered q (staged_plan q book) → refused n p ≡ judge_staged q book sample
+  unfolding judge_staged
+  staged-unplanned e = unplanned _ _ n p (unlettered q _ _ e)
 
-  pub readings-sample : (m : Spread) (limits : Limits) (lower : ℕ) (p : SidesPlan)
-      → sides_plan (section_for m) q lower book ≡ given p
-      → readings_sample m limits p sample ≡ judge_readings m limits p sample
+  pub sequential-unplanned : refused n p ≡ lettered q (sequential_plan q book)
+      → refused n p ≡ judge_sequential q book sample
+  unfolding judge_sequential
+  sequential-unplanned e = unplanned _ _ n p (unlettered q _ _ e)
+
+-- .. and on a plan that is given as it is handed over.
+module _ (q : Asked) (book sample : List ℕ) (a : Answer Verdict) where
+  pub single-judged : (x : Plan) → given x ≡ single_plan q book → a ≡ single_sample q.column x sample
+      → and_then a (λ v. given (record { plan = x; verdict = v })) ≡ judge_single q book sample
+  unfolding judge_single
+  single-judged x e =
+      judged _ _ _ (λ p h. items-in-column q.column p sample ((single-plan-given q book p).0 (sym h)).lot.column) x e a
+
+  pub curtailed-judged : (x : Plan) → given x ≡ curtailed_plan q book → a ≡ curtailed_sample q.column x sample
+      → and_then a (λ v. given (record { plan = x; verdict = v })) ≡ judge_curtailed q book sample
+  unfolding judge_curtailed
+  curtailed-judged x e =
+      judged _ _ _
+      (λ p h.
+      let lot = ((curtailed-plan-given q book p).0 (sym h)).planned.lot in
+      in-column q.column p (omega (arith, lot.column)) sample) x e a
+
+  pub staged-judged : (x : Lettered StagedPlan) → given x ≡ lettered q (staged_plan q book)
+      → a ≡ staged_sample q.column x.plan sample
+      → and_then a (λ v. given (record { plan = x.plan; verdict = v })) ≡ judge_staged q book sample
+  unfolding judge_staged staged_sample
+  staged-judged x e =
+      judged _ (λ p. staged_sample q.column p sample) (λ p. judge_stages q.column p sample)
+      (λ p h.
+      let lot = ((staged-plan-given q book p).0 (sym h)).lot in
+      rw (le-ltb 25 q.column (omega (arith, lot.column)))) x.plan (unlettered q _ _ e) a
+
+  pub sequential-judged : (x : Lettered SequentialPlan) → given x ≡ lettered q (sequential_plan q book)
+      → a ≡ judge_sequence x.plan sample
+      → and_then a (λ v. given (record { plan = x.plan; verdict = v })) ≡ judge_sequential q book sample
+  unfolding judge_sequential
+  sequential-judged x e = judged _ _ _ (λ p h. refl) x.plan (unlettered q _ _ e) a
+
+-- Readings, in the section of the method: for one limit, whose K stands on both sides, ..
+module _ (m : Spread) (q : Asked) (book readings : List ℕ) where
+  section-is : (t : Bool) → t ≡ is_known m → section_if t ≡ section_for m
+  section-is t e = ap section_if e ∙ on m
+    where
+      on : (m : Spread) → section_if (is_known m) ≡ section_for m
+      on estimated = refl
+      on (known sigma) = refl
+
+  pub limit-unplanned : (upper : Bool) (limit : ℤ) (n p : ℕ) (t : Bool) → t ≡ is_known m
+      → refused n p ≡ lettered q (readings_plan (section_if t) q book)
+      → refused n p ≡ judge_limit m upper q book limit readings
+  unfolding judge_limit
+  limit-unplanned upper limit n p t i e = unplanned _ _ n p (unlettered q _ _ (rw (section-is t i) at e))
+
+  limit-sample : (limits : Limits) (p : VariablesPlan) → given p ≡ readings_plan (section_for m) q book
+      → readings_sample m limits (sides_of p) readings ≡ judge_readings m limits (sides_of p) readings
   unfolding readings_sample
-  readings-sample m limits lower p h =
-      let r = sides-given q book m lower p h in
+  limit-sample limits p h = let r = variables-could p (readings-given q book m p (sym h)) in rw r
+
+  pub limit-judged : (upper : Bool) (limit : ℤ) (x : Lettered VariablesPlan) (t : Bool) → t ≡ is_known m
+      → given x ≡ lettered q (readings_plan (section_if t) q book) → (sides : SidesPlan) → sides ≡ sides_of x.plan
+      → (a : Answer Verdict) → a ≡ readings_sample m (one upper limit) sides readings
+      → and_then a (λ v. given (record { plan = x.plan; verdict = v })) ≡ judge_limit m upper q book limit readings
+  unfolding judge_limit
+  limit-judged upper limit x t i e sides s a h =
+      judged _ (λ p. readings_sample m (one upper limit) (sides_of p) readings) _ (limit-sample (one upper limit))
+      x.plan (unlettered q _ _ (rw (section-is t i) at e)) a (rw s at h)
+
+  -- .. and for two
+  pub sides-unplanned : (upper lower : ℤ) (column n p : ℕ) (t : Bool) → t ≡ is_known m
+      → refused n p ≡ sides_plan (section_if t) q column book
+      → refused n p ≡ judge_sides m (both upper lower) q column book readings
+  unfolding judge_sides
+  sides-unplanned upper lower column n p t i e = unplanned _ _ n p (rw (section-is t i) at e)
+
+  sides-sample : (limits : Limits) (column : ℕ) (p : SidesPlan) → given p ≡ sides_plan (section_for m) q column book
+      → readings_sample m limits p readings ≡ judge_readings m limits p readings
+  unfolding readings_sample
+  sides-sample limits column p h =
+      let r = sides-given q book m column p (sym h) in
       rw (variables-could (side_of true p) (r true), variables-could (side_of false p) (r false))
 
--- What goes on from an answer of a checked book has had it checked.
-pub checked : {A B : Type 0} (c : Checked) (a : Answer A) (next : A → Answer B) → a ≡ on_sound c a
-    → and_then a next ≡ on_sound c (and_then a next)
-checked sound a next e = refl
-checked (broken_at byte) a next e = rw e
+  pub sides-judged : (upper lower : ℤ) (column : ℕ) (x : SidesPlan) (t : Bool) → t ≡ is_known m
+      → given x ≡ sides_plan (section_if t) q column book
+      → (a : Answer Verdict) → a ≡ readings_sample m (both upper lower) x readings
+      → and_then a (λ v. given (record { plan = x; verdict = v }))
+      ≡ judge_sides m (both upper lower) q column book readings
+  unfolding judge_sides
+  sides-judged upper lower column x t i e a h =
+      judged _ (λ p. readings_sample m (both upper lower) p readings) _ (sides-sample (both upper lower) column) x
+      (rw (section-is t i) at e) a h
 
-module _ (q : Asked) (book sample : List ℕ) where
-  pub single-checked : judge_single q book sample ≡ on_sound (check_book book) (judge_single q book sample)
-  unfolding judge_single single_plan
-  single-checked = sym (checked-once (check_book book) _ _)
-
-  pub curtailed-checked : judge_curtailed q book sample ≡ on_sound (check_book book) (judge_curtailed q book sample)
-  unfolding judge_curtailed curtailed_plan
-  curtailed-checked = sym (checked-once (check_book book) _ _)
-
-  pub staged-checked : judge_staged q book sample ≡ on_sound (check_book book) (judge_staged q book sample)
-  unfolding judge_staged staged_plan
-  staged-checked = sym (checked-once (check_book book) _ _)
-
-pub fractional-checked : (q : Asked) (book : List ℕ)
-    → fractional_plan q book ≡ on_sound (check_book book) (fractional_plan q book)
-unfolding fractional_plan single_plan
-fractional-checked q book = sym (checked-once (check_book book) _ _)
-
--- A record out of range is refused after the book.
-pub out-of-range : {A : Type 0} (book : List ℕ) (s : Supply) (a : Answer A) → supply_in_range s ≡ false → (m k : ℕ)
-    → ◌≡◌ {A = Answer (Unit {0})} (refused m k) (on_sound (check_book book) (refused 1 0))
-    → refused m k ≡ on_sound (check_book book) (on_supply s a)
-out-of-range book s a out m k first = rw out (refused-alike (check_book book) 1 0 m k first)
-
--- A lot closed, by its record and by how it is judged at the present severity.
-module _ {P : Type 0} (zeros : P) (s : Supply) (o : Offered) (book : List ℕ)
-    (judge : Asked → Answer (Judged P Verdict)) (event : Judged P Verdict → Event) (t : Bool)
-    (range : t ≡ supply_in_range s) (x : Beside P (Closed P)) where
-  abbrev IsClosed : Type 0
-  IsClosed =
-      x
-      ≡ beside zeros plan_closed
-      (on_sound (check_book book) (on_supply s (and_then (judge (asked_on s.switching o)) (closed_with s event))))
-
-  closes : (q : Asked) (b : Beside P (Judged P Verdict)) → t ≡ true → q ≡ asked_on s.switching o
-      → b ≡ beside zeros plan_judged (judge q) → judge q ≡ on_sound (check_book book) (judge q)
-      → x ≡ beside zeros plan_closed (and_then b.answer (λ j. on_supply s (closed_with s event j))) → IsClosed
-  closes q b e asked judged checks k =
-      let within : supply_in_range s ≡ true = sym range ∙ e in
-      let a = beside-answer zeros plan_judged b (judge q) judged in
-      rw (← asked, within, ← checked (check_book book) (judge q) (closed_with s event) checks, ← a) (rw within at k)
-
-  closes-out : (m k : ℕ) → t ≡ false
-      → ◌≡◌ {A = Answer (Unit {0})} (refused m k) (on_sound (check_book book) (refused 1 0))
-      → x ≡ beside zeros plan_closed (refused m k) → IsClosed
-  closes-out m k e first z = z ∙ ap (beside zeros plan_closed) (out-of-range book s _ (sym range ∙ e) m k first)
-
-module _ (s : Supply) (o : Offered) (book sample : List ℕ) (t : Bool) (range : t ≡ supply_in_range s) where
-  module _ (x : Beside Plan (Closed Plan)) where
-    pub single-closed : (q : Asked) (b : Beside Plan (Judged Plan Verdict)) → t ≡ true → q ≡ asked_on s.switching o
-        → b ≡ beside zero_plan plan_judged (judge_single q book sample)
-        → x ≡ beside zero_plan plan_closed
-        (and_then b.answer (λ j. on_supply s (closed_with s (single_event s.switching o) j)))
-        → x ≡ beside zero_plan plan_closed (close_single s o book sample)
-    unfolding close_single
-    single-closed q b e asked judged k =
-        closes zero_plan s o book (λ q. judge_single q book sample) _ t range x q b e asked judged
-        (single-checked q book sample) k
-
-    pub single-out : (m k : ℕ) → t ≡ false
-        → ◌≡◌ {A = Answer (Unit {0})} (refused m k) (on_sound (check_book book) (refused 1 0))
-        → x ≡ beside zero_plan plan_closed (refused m k)
-        → x ≡ beside zero_plan plan_closed (close_single s o book sample)
-    unfolding close_single
-    single-out m k e first z =
-        closes-out zero_plan s o book (λ q. judge_single q book sample) _ t range x m k e first z
-
-    pub curtailed-closed : (q : Asked) (b : Beside Plan (Judged Plan Verdict)) → t ≡ true
-        → q ≡ asked_on s.switching o → b ≡ beside zero_plan plan_judged (judge_curtailed q book sample)
-        → x ≡ beside zero_plan plan_closed
-        (and_then b.answer (λ j. on_supply s (closed_with s (single_event s.switching o) j)))
-        → x ≡ beside zero_plan plan_closed (close_curtailed s o book sample)
-    unfolding close_curtailed
-    curtailed-closed q b e asked judged k =
-        closes zero_plan s o book (λ q. judge_curtailed q book sample) _ t range x q b e asked judged
-        (curtailed-checked q book sample) k
-
-    pub curtailed-out : (m k : ℕ) → t ≡ false
-        → ◌≡◌ {A = Answer (Unit {0})} (refused m k) (on_sound (check_book book) (refused 1 0))
-        → x ≡ beside zero_plan plan_closed (refused m k)
-        → x ≡ beside zero_plan plan_closed (close_curtailed s o book sample)
-    unfolding close_curtailed
-    curtailed-out m k e first z =
-        closes-out zero_plan s o book (λ q. judge_curtailed q book sample) _ t range x m k e first z
-
-  module _ (x : Beside StagedPlan (Closed StagedPlan)) where
-    pub staged-closed : (q : Asked) (b : Beside StagedPlan (Judged StagedPlan Verdict)) → t ≡ true
-        → q ≡ asked_on s.switching o → b ≡ beside no_stages plan_judged (judge_staged q book sample)
-        → x ≡ beside no_stages plan_closed
-        (and_then b.answer (λ j. on_supply s (closed_with s (staged_event s.switching o) j)))
-        → x ≡ beside no_stages plan_closed (close_staged s o book sample)
-    unfolding close_staged
-    staged-closed q b e asked judged k =
-        closes no_stages s o book (λ q. judge_staged q book sample) _ t range x q b e asked judged
-        (staged-checked q book sample) k
-
-    pub staged-out : (m k : ℕ) → t ≡ false
-        → ◌≡◌ {A = Answer (Unit {0})} (refused m k) (on_sound (check_book book) (refused 1 0))
-        → x ≡ beside no_stages plan_closed (refused m k)
-        → x ≡ beside no_stages plan_closed (close_staged s o book sample)
-    unfolding close_staged
-    staged-out m k e first z =
-        closes-out no_stages s o book (λ q. judge_staged q book sample) _ t range x m k e first z
+-- A plan for two limits that an entry gives passes the test of plans handed over.
+pub readings-sample : (q : Asked) (book sample : List ℕ) (m : Spread) (limits : Limits) (lower : ℕ) (p : SidesPlan)
+    → sides_plan (section_for m) q lower book ≡ given p
+    → readings_sample m limits p sample ≡ judge_readings m limits p sample
+readings-sample q book sample m limits lower p h = sides-sample m q book sample limits lower p (sym h)

@@ -5,10 +5,14 @@ use Prim.Native.Nat.{ℕ}
 use mathlib.Core.Path.{◌≡◌, refl, sym, ap, ◌∙◌}
 use mathlib.Core.List.{List}
 use lib.ListN.{length}
+use Rattle.std.specs.Prelude.{Result}
 use Rattle.rules.specs.Refusals.{Answer}
 use Rattle.rules.specs.Severity as paper
 use Rattle.rules.specs.History as histories
-use Rattle.rules.proofs.Answers.{refused-given, given-one, read-back}
+use Rattle.rules.proofs.Answers.{read-back}
+use Rattle.refusals.specs.declared.Refusal.{Refusal}
+use Rattle.refusals.specs.Paper.{answer_by}
+use Rattle.refusals.proofs.OneResult.{answer-one}
 use Rattle.severity.specs.declared.Work.{Work}
 use Rattle.severity.specs.declared.Record.{Record}
 use Rattle.severity.specs.declared.Lot.{Lot}
@@ -17,9 +21,7 @@ use Rattle.severity.specs.declared.Origin.{Origin}
 use Rattle.severity.specs.declared.Origin.TheVariants.{Typed, Sampled, Fraction}
 use Rattle.severity.specs.declared.Event.{Event}
 use Rattle.severity.specs.declared.Event.TheVariants as event
-use Rattle.severity.specs.declared.Stepped.{Stepped}
-use Rattle.severity.specs.declared.Stepped.TheVariants as stepped
-use Rattle.severity.specs.Paper.{work_paper, lot_paper, origin_paper, event_paper, record_paper, stepped_paper}
+use Rattle.severity.specs.Paper.{work_paper, lot_paper, origin_paper, event_paper, record_paper}
 use Rattle.severity.specs.Paper.{written_from, taken_by, Walks}
 
 abbrev work_back : histories.Work → Work
@@ -92,17 +94,14 @@ pub event-one : (a b : Event) → event_paper a ≡ event_paper b → a ≡ b
 event-one = read-back event_paper event_back event-back
 
 -- of update
-pub stepped-one : (a b : Stepped) → stepped_paper a ≡ stepped_paper b → a ≡ b
-stepped-one (stepped.Refused n k) (stepped.Refused m j) e = cc
-stepped-one (stepped.Refused n k) (stepped.Given s) e = absurd (refused-given e)
-stepped-one (stepped.Given r) (stepped.Refused m j) e = absurd (refused-given (sym e))
-stepped-one (stepped.Given r) (stepped.Given s) e = ap stepped.Given (record-one r s (given-one e))
+pub stepped-one : (a b : Result Record Refusal) → answer_by record_paper a ≡ answer_by record_paper b → a ≡ b
+stepped-one = answer-one record_paper record_back (λ x. refl)
 
 -- of walk: the answer, and the lent buffer
-pub walks-one : (w : histories.Work) (start : paper.Record) (h out last last' : List ℕ) (r r' : Stepped)
+pub walks-one : (w : histories.Work) (start : paper.Record) (h out last last' : List ℕ) (r r' : Result Record Refusal)
     → Walks w start h out last r → Walks w start h out last' r' → (r ≡ r') × (last ≡ last')
 walks-one w start h out last last' r r' c d =
-    let f : stepped_paper r ≡ stepped_paper r' = c.answer ∙ sym d.answer in (
+    let f : answer_by record_paper r ≡ answer_by record_paper r' = c.answer ∙ sym d.answer in (
       stepped-one r r' f,
       c.buffer ∙ (ap (λ (a : Answer paper.Record). written_from w start h out (taken_by a (length h))) f
           ∙ sym d.buffer),

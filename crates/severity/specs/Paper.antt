@@ -1,9 +1,11 @@
 -- Document 01's numbers and values for each case of the types of this crate, and what its functions promise in them.
 -- Definitions only.
-use Rattle.std.specs.Prelude.{ℕ, suc, ◌≤◌, ◌≡◌, List, length}
+use Rattle.std.specs.Prelude.{ℕ, suc, ◌≡◌, List, length, Result}
 use Rattle.rules.specs.Refusals.{Answer, refused, given}
 use Rattle.rules.specs.Severity as paper
 use Rattle.rules.specs.History as histories
+use Rattle.refusals.specs.declared.Refusal.{Refusal}
+use Rattle.refusals.specs.Paper.{answer_by}
 use Rattle.severity.specs.declared.Work.{Work}
 use Rattle.severity.specs.declared.Lot.{Lot}
 use Rattle.severity.specs.declared.Lot.TheVariants.{AddThree, AddTwo, ScoreZero, NotAccepted}
@@ -12,8 +14,6 @@ use Rattle.severity.specs.declared.Origin.TheVariants.{Typed, Sampled, Fraction}
 use Rattle.severity.specs.declared.Event.{Event}
 use Rattle.severity.specs.declared.Event.TheVariants as event
 use Rattle.severity.specs.declared.Record.{Record}
-use Rattle.severity.specs.declared.Stepped.{Stepped}
-use Rattle.severity.specs.declared.Stepped.TheVariants as stepped
 
 abbrev pub work_paper : Work → histories.Work
 work_paper w = record { permission = w.permission; resubmission = w.resubmission }
@@ -49,10 +49,6 @@ record_paper r =
       permission = r.permission;
     }
 
-abbrev pub stepped_paper : Stepped → Answer paper.Record
-stepped_paper (stepped.Refused n k) = refused n k
-stepped_paper (stepped.Given r) = given (record_paper r)
-
 -- the severity of a record that is given; after a refused byte nothing is written, so that 0 is never met
 abbrev pub severity_of : Answer paper.Record → ℕ
 severity_of (refused n k) = 0
@@ -69,15 +65,9 @@ abbrev pub taken_by : Answer paper.Record → ℕ → ℕ
 taken_by (refused n k) bytes = k
 taken_by (given r) bytes = bytes
 
--- what a walk has done before the byte at i, with the record that it then holds
-pub record Walking (w : histories.Work) (start : paper.Record) (h out buffer : List ℕ) (held : paper.Record) (i : ℕ)
-    : Type 0 where
-  pub within : i ≤ length h
-  pub reached : histories.after_from start (histories.past w h i) ≡ given held
-  pub left : buffer ≡ written_from w start h out i
-  pub room : length buffer ≡ length out
-
 -- A walk's whole promise: the answer, and what the buffer then holds.
-pub record Walks (w : histories.Work) (start : paper.Record) (h out last : List ℕ) (r : Stepped) : Type 0 where
-  pub answer : stepped_paper r ≡ paper.on_record start (histories.after_from start (histories.past w h (length h)))
-  pub buffer : last ≡ written_from w start h out (taken_by (stepped_paper r) (length h))
+pub record Walks (w : histories.Work) (start : paper.Record) (h out last : List ℕ) (r : Result Record Refusal)
+    : Type 0 where
+  pub answer : answer_by record_paper r
+      ≡ paper.on_record start (histories.after_from start (histories.past w h (length h)))
+  pub buffer : last ≡ written_from w start h out (taken_by (answer_by record_paper r) (length h))

@@ -1,16 +1,18 @@
 #![tactic(auto)]
 
 // The severity record of one supply, and what each event makes of it, by itself or in a history.
-ghost use Rattle.std.specs.Prelude.{◌≡◌, ◌&&◌, ◌+◌, ◌≤◌, min, eqb};
-ghost use Rattle.rules.specs.Severity.{accepted, started, fresh, due, settled, score_after, window_after, lot_normal};
+ghost use Rattle.std.specs.Prelude.{◌≡◌, ◌&&◌};
+ghost use Rattle.rules.specs.Severity.{accepted, started, fresh, settled, score_after, window_after, lot_normal};
 ghost use Rattle.rules.specs.Severity.{lot_tightened, on_lot, on_resubmitted, on_order, on_corrective, step, in_range};
 ghost use Rattle.rules.specs.Severity.{on_normal, on_tightened, score_and_window, no_score_or_window, run_and_count};
-ghost use Rattle.rules.specs.Severity.{no_run_or_count};
-ghost use Rattle.rules.specs.History.{ours, event_in, byte_of_lot, byte_of};
-ghost use Rattle.rules.specs.Severity.{on_record};
-ghost use Rattle.severity.specs.Paper.{work_paper, lot_paper, event_paper, record_paper, stepped_paper, Walks};
+ghost use Rattle.rules.specs.Severity.{no_run_or_count, on_record};
+ghost use Rattle.rules.specs.History.{ours, event_in, byte_of};
+ghost use Rattle.severity.specs.Paper.{work_paper, lot_paper, event_paper, record_paper, Walks};
+ghost use Rattle.refusals.specs.Paper.{answer_by, reason_by};
 
-// The severities.
+use refusals::{Reason, Refusal};
+
+// The severities. Numbers: a caller may hand over any, and `in_range` answers for it.
 pub const NORMAL: u8 = 0;
 
 pub const TIGHTENED: u8 = 1;
@@ -18,13 +20,6 @@ pub const TIGHTENED: u8 = 1;
 pub const REDUCED: u8 = 2;
 
 pub const STOPPED: u8 = 3;
-
-// The refusals that an event can meet.
-const UNKNOWN_FORM: u8 = 1;
-
-const WHILE_STOPPED: u8 = 5;
-
-const NOT_STOPPED: u8 = 10;
 
 // The work that a supply's history belongs to: the permission that its start names, and whether it knows resubmitted
 // lots.
@@ -36,7 +31,7 @@ pub struct Work {
 
 // The window is five bits, the newest lot in the lowest, 1 for a lot not accepted. No two of score, run, count and
 // window stand side by side: the compiler would keep them as one wide number, and take it apart at every step.
-#[derive(Clone, Copy)]
+#[derive(Clone, Copy, Default)]
 pub struct Record {
     pub score: u8,
     pub severity: u8,
@@ -47,13 +42,13 @@ pub struct Record {
     pub window: u8,
 }
 
-// How an original lot counts.
-#[derive(Clone, Copy)]
+// How an original lot counts, by the history byte that says so.
+#[derive(Clone, Copy, PartialEq, Eq)]
 pub enum Lot {
-    AddThree,
-    AddTwo,
-    ScoreZero,
-    NotAccepted,
+    AddThree = 0,
+    AddTwo = 1,
+    ScoreZero = 2,
+    NotAccepted = 3,
 }
 
 // How an original lot entered: typed as a history byte; closed from its plan and sample; or so on a fractional plan,
@@ -65,6 +60,7 @@ pub enum Origin {
     Fraction(u8, u8, u8),
 }
 
+// Unknown is the rules' own event, of a byte of no known form: the step refuses it.
 #[derive(Clone, Copy)]
 pub enum Event {
     Lot(Origin, Lot),
@@ -73,56 +69,6 @@ pub enum Event {
     Permission(bool),
     Corrective,
     Unknown,
-}
-
-// The next record, or a refusal.
-#[derive(Clone, Copy)]
-pub enum Stepped {
-    Refused(u8, usize),
-    Given(Record),
-}
-
-// Reduced or stopped, which keep no figure.
-fn start(severity: u8, steady: bool, permission: bool) -> Record
-    ensures { record_paper result ≡ started severity steady permission }
-{
-    Record {
-        severity,
-        score: 0,
-        run: 0,
-        count: 0,
-        window: 0,
-        steady,
-        permission,
-    }
-}
-
-fn on_normal(score: u8, window: u8, steady: bool, permission: bool) -> Record
-    ensures { record_paper result ≡ on_normal score window steady permission }
-{
-    Record {
-        severity: NORMAL,
-        score,
-        run: 0,
-        count: 0,
-        window,
-        steady,
-        permission,
-    }
-}
-
-fn on_tightened(run: u8, count: u8, steady: bool, permission: bool) -> Record
-    ensures { record_paper result ≡ on_tightened run count steady permission }
-{
-    Record {
-        severity: TIGHTENED,
-        score: 0,
-        run,
-        count,
-        window: 0,
-        steady,
-        permission,
-    }
 }
 
 // "Starts: .. permission no", and every byte of the list is known.
@@ -138,232 +84,214 @@ pub fn ours() -> Work
 pub fn fresh(work: Work) -> Record
     ensures { record_paper result ≡ fresh work.permission }
 {
-    on_normal(0, 0, false, work.permission)
-}
-
-fn is_due(score: u8, steady: bool, permission: bool) -> bool
-    ensures { result ≡ due score steady permission }
-{
-    if score < 30 {
-        return false;
-    }
-    if steady {
-        return permission;
-    }
-    false
-}
-
-// Normal after an original lot or an order.
-fn settle(score: u8, window: u8, steady: bool, permission: bool) -> Record
-    ensures { record_paper result ≡ settled score window steady permission }
-{
-    if is_due(score, steady, permission) {
-        return start(REDUCED, steady, permission);
-    }
-    on_normal(score, window, steady, permission)
-}
-
-fn is_accepted(lot: Lot) -> bool
-    ensures { result ≡ accepted (lot_paper lot) }
-{
-    match lot {
-        Lot::NotAccepted => false,
-        Lot::AddThree => true,
-        Lot::AddTwo => true,
-        Lot::ScoreZero => true,
+    Record {
+        severity: NORMAL,
+        permission: work.permission,
+        ..Record::default()
     }
 }
 
-fn add_points(score: u8, points: u8) -> u8
-    requires { points ≤ 30 }
-    ensures { result ≡ min 30 (score + points) }
-{
-    if score < 30 - points {
-        score + points
-    } else {
-        30
+impl Lot {
+    fn is_accepted(self) -> bool
+        ensures { result ≡ accepted (lot_paper self) }
+    {
+        self != Lot::NotAccepted
     }
-}
 
-fn score_after(lot: Lot, score: u8) -> u8
-    ensures { result ≡ score_after (lot_paper lot) score }
-{
-    match lot {
-        Lot::AddThree => add_points(score, 3),
-        Lot::AddTwo => add_points(score, 2),
-        Lot::ScoreZero => 0,
-        Lot::NotAccepted => 0,
-    }
-}
-
-fn window_after(lot: Lot, window: u8) -> u8
-    ensures { result ≡ window_after (lot_paper lot) window }
-{
-    let shifted = 2 * (window % 16);
-    if is_accepted(lot) {
-        return shifted;
-    }
-    shifted + 1
-}
-
-fn lot_normal(lot: Lot, score: u8, window: u8, steady: bool, permission: bool) -> Record
-    ensures { record_paper result ≡ lot_normal (lot_paper lot) score window steady permission }
-{
-    let shifted = window_after(lot, window);
-    if is_accepted(lot) {
-        return settle(score_after(lot, score), shifted, steady, permission);
-    }
-    if 2 <= u8::count_ones(shifted) {
-        return on_tightened(0, 0, steady, permission);
-    }
-    settle(0, shifted, steady, permission)
-}
-
-fn lot_tightened(lot: Lot, run: u8, count: u8, steady: bool, permission: bool) -> Record
-    ensures { record_paper result ≡ lot_tightened (lot_paper lot) run count steady permission }
-{
-    if is_accepted(lot) {
-        if 4 <= run {
-            return on_normal(0, 0, steady, permission);
+    fn score_after(self, score: u8) -> u8
+        ensures { result ≡ score_after (lot_paper self) score }
+    {
+        match self {
+            Lot::AddThree => score.min(27) + 3,
+            Lot::AddTwo => score.min(28) + 2,
+            Lot::ScoreZero | Lot::NotAccepted => 0,
         }
-        return on_tightened(run + 1, count, steady, permission);
     }
-    if 4 <= count {
-        return start(STOPPED, steady, permission);
+
+    fn window_after(self, window: u8) -> u8
+        ensures { result ≡ window_after (lot_paper self) window }
+    {
+        2 * (window % 16) + u8::from(!self.is_accepted())
     }
-    on_tightened(0, count + 1, steady, permission)
 }
 
-fn on_lot(old: Record, lot: Lot) -> Stepped
-    ensures { stepped_paper result ≡ on_lot old.severity (lot_paper lot) (record_paper old) }
-{
-    if old.severity == NORMAL {
-        return Stepped::Given(lot_normal(lot, old.score, old.window, old.steady, old.permission));
-    }
-    if old.severity == TIGHTENED {
-        return Stepped::Given(lot_tightened(lot, old.run, old.count, old.steady, old.permission));
-    }
-    if old.severity == REDUCED {
-        if is_accepted(lot) {
-            return Stepped::Given(old);
+impl Record {
+    // A stay begins with its figures cleared; reduced and stopped keep none.
+    fn started(self, severity: u8) -> Record
+        ensures { record_paper result ≡ started severity self.steady self.permission }
+    {
+        Record {
+            severity,
+            score: 0,
+            run: 0,
+            count: 0,
+            window: 0,
+            ..self
         }
-        return Stepped::Given(on_normal(0, 0, old.steady, old.permission));
     }
-    Stepped::Refused(WHILE_STOPPED, 0)
-}
 
-fn on_resubmitted(old: Record) -> Stepped
-    ensures { stepped_paper result ≡ on_resubmitted old.severity (record_paper old) }
-{
-    if STOPPED <= old.severity {
-        return Stepped::Refused(WHILE_STOPPED, 0);
-    }
-    Stepped::Given(old)
-}
-
-// An order that leaves steady and permission so; where `stands` is false it withdraws.
-fn on_order(old: Record, stands: bool, steady: bool, permission: bool) -> Record
-    ensures { record_paper result ≡ on_order old.severity stands steady permission (record_paper old) }
-{
-    if old.severity == NORMAL {
-        return settle(old.score, old.window, steady, permission);
-    }
-    if old.severity == TIGHTENED {
-        return on_tightened(old.run, old.count, steady, permission);
-    }
-    if old.severity == REDUCED {
-        if stands {
-            return start(REDUCED, steady, permission);
+    fn on_normal(self, score: u8, window: u8) -> Record
+        ensures { record_paper result ≡ on_normal score window self.steady self.permission }
+    {
+        Record {
+            score,
+            window,
+            ..self.started(NORMAL)
         }
-        return on_normal(0, 0, steady, permission);
     }
-    start(STOPPED, steady, permission)
+
+    fn on_tightened(self, run: u8, count: u8) -> Record
+        ensures { record_paper result ≡ on_tightened run count self.steady self.permission }
+    {
+        Record {
+            run,
+            count,
+            ..self.started(TIGHTENED)
+        }
+    }
+
+    // Normal after an original lot or an order. The test of what is due stands here: a function that answers it alone
+    // would be worked out whole at every lot.
+    fn settle(self, score: u8, window: u8) -> Record
+        ensures { record_paper result ≡ settled score window self.steady self.permission }
+    {
+        if 30 <= score && self.steady && self.permission {
+            self.started(REDUCED)
+        } else {
+            self.on_normal(score, window)
+        }
+    }
+
+    fn lot_normal(self, lot: Lot) -> Record
+        ensures { record_paper result ≡ lot_normal (lot_paper lot) self.score self.window self.steady self.permission }
+    {
+        let window = lot.window_after(self.window);
+        // Accepted comes first, so that such a lot counts no ones of the window.
+        if lot.is_accepted() {
+            self.settle(lot.score_after(self.score), window)
+        } else if 2 <= window.count_ones() {
+            self.started(TIGHTENED)
+        } else {
+            self.settle(0, window)
+        }
+    }
+
+    fn lot_tightened(self, lot: Lot) -> Record
+        ensures { record_paper result ≡ lot_tightened (lot_paper lot) self.run self.count self.steady self.permission }
+    {
+        if lot.is_accepted() {
+            if 4 <= self.run {
+                self.started(NORMAL)
+            } else {
+                self.on_tightened(self.run + 1, self.count)
+            }
+        } else if 4 <= self.count {
+            self.started(STOPPED)
+        } else {
+            self.on_tightened(0, self.count + 1)
+        }
+    }
+
+    #[tactic(auto, unfolding(rules::specs::Severity::on_lot))]
+    fn on_lot(self, lot: Lot) -> Result<Record, Reason>
+        ensures { reason_by record_paper result ≡ on_lot self.severity (lot_paper lot) (record_paper self) }
+    {
+        match self.severity {
+            NORMAL => Ok(self.lot_normal(lot)),
+            TIGHTENED => Ok(self.lot_tightened(lot)),
+            REDUCED if lot.is_accepted() => Ok(self),
+            REDUCED => Ok(self.started(NORMAL)),
+            _ => Err(Reason::WhileStopped),
+        }
+    }
+
+    #[tactic(auto, unfolding(rules::specs::Severity::on_resubmitted))]
+    fn on_resubmitted(self) -> Result<Record, Reason>
+        ensures { reason_by record_paper result ≡ on_resubmitted self.severity (record_paper self) }
+    {
+        if self.severity < STOPPED {
+            Ok(self)
+        } else {
+            Err(Reason::WhileStopped)
+        }
+    }
+
+    // An order that leaves steady and permission so; where `stands` is false it withdraws. Both come beside the record:
+    // `step` would copy them at every byte if it changed a record before the call.
+    #[tactic(auto, unfolding(rules::specs::Severity::on_order))]
+    fn on_order(self, stands: bool, steady: bool, permission: bool) -> Record
+        ensures { record_paper result ≡ on_order self.severity stands steady permission (record_paper self) }
+    {
+        let ordered = Record {
+            steady,
+            permission,
+            ..self
+        };
+        match self.severity {
+            NORMAL => ordered.settle(self.score, self.window),
+            TIGHTENED => ordered.on_tightened(self.run, self.count),
+            REDUCED if stands => ordered.started(REDUCED),
+            REDUCED => ordered.started(NORMAL),
+            _ => ordered.started(STOPPED),
+        }
+    }
+
+    #[tactic(auto, unfolding(rules::specs::Severity::on_corrective))]
+    fn on_corrective(self) -> Result<Record, Reason>
+        ensures { reason_by record_paper result ≡ on_corrective self.severity (record_paper self) }
+    {
+        if self.severity < STOPPED {
+            Err(Reason::NotStopped)
+        } else {
+            Ok(self.started(TIGHTENED))
+        }
+    }
+
+    // What an event makes of a record, in range or not.
+    #[tactic(auto, unfolding(rules::specs::Severity::step))]
+    fn step(self, event: Event) -> Result<Record, Reason>
+        ensures { reason_by record_paper result ≡ step (record_paper self) (event_paper event) }
+    {
+        match event {
+            Event::Lot(_, lot) => self.on_lot(lot),
+            Event::Resubmitted => self.on_resubmitted(),
+            Event::Steady(steady) => Ok(self.on_order(steady, steady, self.permission)),
+            Event::Permission(permission) => Ok(self.on_order(permission, self.steady, permission)),
+            Event::Corrective => self.on_corrective(),
+            Event::Unknown => Err(Reason::UnknownForm),
+        }
+    }
+
+    fn no_score_or_window(self) -> bool
+        ensures { result ≡ no_score_or_window (record_paper self) }
+    {
+        self.score == 0 && self.window == 0
+    }
+
+    fn no_run_or_count(self) -> bool
+        ensures { result ≡ no_run_or_count (record_paper self) }
+    {
+        self.run == 0 && self.count == 0
+    }
 }
 
-fn on_corrective(old: Record) -> Stepped
-    ensures { stepped_paper result ≡ on_corrective old.severity (record_paper old) }
-{
-    if STOPPED <= old.severity {
-        return Stepped::Given(on_tightened(0, 0, old.steady, old.permission));
-    }
-    Stepped::Refused(NOT_STOPPED, 0)
-}
-
-// What an event makes of a record, in range or not.
-fn step(old: Record, event: Event) -> Stepped
-    ensures { stepped_paper result ≡ step (record_paper old) (event_paper event) }
-{
-    match event {
-        Event::Lot(_, lot) => on_lot(old, lot),
-        Event::Resubmitted => on_resubmitted(old),
-        Event::Steady(stands) => Stepped::Given(on_order(old, stands, stands, old.permission)),
-        Event::Permission(stands) => Stepped::Given(on_order(old, stands, old.steady, stands)),
-        Event::Corrective => on_corrective(old),
-        Event::Unknown => Stepped::Refused(UNKNOWN_FORM, 0),
-    }
-}
-
-fn both_zero(a: u8, b: u8) -> bool
-    ensures { result ≡ (eqb a 0 && eqb b 0) }
-{
-    if a == 0 {
-        return b == 0;
-    }
-    false
-}
-
-fn normal_in_range(old: Record) -> bool
-    ensures { result ≡ (score_and_window (record_paper old) && no_run_or_count (record_paper old)) }
-{
-    if 30 < old.score {
-        return false;
-    }
-    if 32 <= old.window {
-        return false;
-    }
-    if 1 < u8::count_ones(old.window) {
-        return false;
-    }
-    both_zero(old.run, old.count)
-}
-
-fn tightened_in_range(old: Record) -> bool
-    ensures { result ≡ (run_and_count (record_paper old) && no_score_or_window (record_paper old)) }
-{
-    if 4 < old.run {
-        return false;
-    }
-    if 4 < old.count {
-        return false;
-    }
-    both_zero(old.score, old.window)
-}
-
-fn without_figures(old: Record) -> bool
-    ensures { result ≡ (no_score_or_window (record_paper old) && no_run_or_count (record_paper old)) }
-{
-    if both_zero(old.score, old.window) {
-        return both_zero(old.run, old.count);
-    }
-    false
-}
-
+#[tactic(auto, unfolding(rules::specs::Severity::figures_in_range))]
 pub fn in_range(old: Record) -> bool
     ensures { result ≡ in_range (record_paper old) }
 {
-    if old.severity == NORMAL {
-        return normal_in_range(old);
+    match old.severity {
+        NORMAL => old.score <= 30
+            && old.window < 32
+            && old.window.count_ones() <= 1
+            && old.no_run_or_count(),
+        TIGHTENED => old.run <= 4 && old.count <= 4 && old.no_score_or_window(),
+        REDUCED | STOPPED => old.no_score_or_window() && old.no_run_or_count(),
+        _ => false,
     }
-    if old.severity == TIGHTENED {
-        return tightened_in_range(old);
-    }
-    if old.severity <= STOPPED {
-        return without_figures(old);
-    }
-    false
 }
 
 // The event of a history byte.
+#[tactic(auto, unfolding(rules::specs::History::event_in, rules::specs::History::event_of))]
 pub fn event_of(work: Work, byte: u32) -> Event
     ensures { event_paper result ≡ event_in (work_paper work) byte }
 {
@@ -372,12 +300,7 @@ pub fn event_of(work: Work, byte: u32) -> Event
         1 => Event::Lot(Origin::Typed, Lot::AddTwo),
         2 => Event::Lot(Origin::Typed, Lot::ScoreZero),
         3 => Event::Lot(Origin::Typed, Lot::NotAccepted),
-        4 => {
-            if work.resubmission {
-                return Event::Resubmitted;
-            }
-            Event::Unknown
-        }
+        4 if work.resubmission => Event::Resubmitted,
         5 => Event::Steady(true),
         6 => Event::Steady(false),
         7 => Event::Permission(true),
@@ -387,82 +310,48 @@ pub fn event_of(work: Work, byte: u32) -> Event
     }
 }
 
-fn byte_of_lot(lot: Lot) -> u8
-    ensures { result ≡ byte_of_lot (lot_paper lot) }
-{
-    match lot {
-        Lot::AddThree => 0,
-        Lot::AddTwo => 1,
-        Lot::ScoreZero => 2,
-        Lot::NotAccepted => 3,
-    }
-}
-
-// The history byte of an event, or 10 for one that has none.
+// The history byte of an event, or 10 for one that has none: the rules' number, and no known byte.
 pub fn byte_of(event: Event) -> u8
     ensures { result ≡ byte_of (event_paper event) }
 {
     match event {
-        Event::Lot(_, lot) => byte_of_lot(lot),
+        Event::Lot(_, lot) => lot as u8,
         Event::Resubmitted => 4,
-        Event::Steady(stands) => {
-            if stands {
-                return 5;
-            }
-            6
-        }
-        Event::Permission(stands) => {
-            if stands {
-                return 7;
-            }
-            8
-        }
+        Event::Steady(true) => 5,
+        Event::Steady(false) => 6,
+        Event::Permission(true) => 7,
+        Event::Permission(false) => 8,
         Event::Corrective => 9,
         Event::Unknown => 10,
     }
 }
 
-fn step_byte(work: Work, old: Record, byte: u8) -> Stepped
-    ensures { stepped_paper result ≡ step (record_paper old) (event_in (work_paper work) byte) }
-{
-    step(old, event_of(work, byte as u32))
-}
-
 // A history that goes on from a record that a caller hands over: the record after it, and in the lent buffer, as far as
 // that reaches, the severity after each byte. A record out of range is refused. All that moves a record goes through
 // this one loop, so that the step is compiled into it.
-pub fn walk(work: Work, from: Record, history: &[u8], out: &mut [u8]) -> Stepped
-    ensures { Walks (work_paper work) (record_paper from) history.now out.old
-        out.new result }
+pub fn walk(work: Work, from: Record, history: &[u8], out: &mut [u8]) -> Result<Record, Refusal>
+    ensures { Walks (work_paper work) (record_paper from) history.now out.old out.new result }
 {
     if !in_range(from) {
-        return Stepped::Refused(UNKNOWN_FORM, 0);
+        return Err(Refusal::from(Reason::UnknownForm));
     }
     let mut held = from;
-    let mut i: usize = 0;
-    while i < history.len() {
-        let answer = step_byte(work, held, history[i]);
-        match answer {
-            Stepped::Given(new) => {
-                held = new;
-            }
-            Stepped::Refused(number, _) => {
-                return Stepped::Refused(number, i);
-            }
+    for (i, &byte) in history.iter().enumerate() {
+        match held.step(event_of(work, u32::from(byte))) {
+            Ok(new) => held = new,
+            Err(reason) => return Err(Refusal { reason, place: i }),
         }
         if i < out.len() {
             out[i] = held.severity;
         }
-        i += 1;
     }
-    Stepped::Given(held)
+    Ok(held)
 }
 
 // What an event makes of a record: what the event's byte does.
-pub fn update(old: Record, event: Event) -> Stepped
-    ensures { stepped_paper result ≡ on_record (record_paper old) (step (record_paper old) (event_paper event)) }
+pub fn update(old: Record, event: Event) -> Result<Record, Refusal>
+    ensures { answer_by record_paper result
+        ≡ on_record (record_paper old) (step (record_paper old) (event_paper event)) }
 {
-    let byte = [byte_of(event)];
-    let mut unread = [0u8; 1];
-    walk(ours(), old, &byte, &mut unread)
+    walk(ours(), old, &[byte_of(event)], &mut [])
 }

@@ -4,6 +4,7 @@ use Prim.Native.Nat.{ℕ, ◌+◌, ◌*◌, ◌≤◌, ◌<◌}
 use mathlib.Core.Path.{◌≡◌, refl, ap, sym, ◌∙◌}
 use mathlib.Core.List.{List, []}
 use native.Mathlib.Omega.{arith}
+use Rattle.std.proofs.Common.{Result, Ok, Err}
 use borrow.Author.Tests.{le-leb, lt-leb, lt-ltb, le-ltb}
 use lib.ListN.{length, get_or, drop, length-drop}
 use lib.Seq.{drop-drop, get_or-drop}
@@ -19,11 +20,13 @@ use Rattle.rules.proofs.RowLaws.{rowed, row-length}
 use Rattle.rules.proofs.Walks.{entry-ends}
 use Rattle.rules.proofs.Written.{entry-fits}
 use Rattle.rules.proofs.Demands.Writing.{entry-told, count-is, no-section}
-use Rattle.rules.proofs.EntryLaws.{broken-first}
+use Rattle.rules.proofs.EntryLaws.{broken-first, is-sound}
 use Rattle.rules.proofs.Bounded.{by-le}
 use Rattle.rows.specs.Paper.{entry_shown}
+use Rattle.refusals.specs.Paper.{number_of, at_start, itself, answer_by}
+use Rattle.refusals.specs.declared.Reason.TheVariants.{NoPlan, BufferShort}
+use Rattle.refusals.specs.declared.Refusal.{Refusal}
 use Rattle.showing.specs.Paper.{Held, ShownAt, RowLeft, row_left}
-use Rattle.showing.specs.declared.EntryAnswer.TheVariants.{Refused, Numbers}
 
 -- An entry that is there: where it stands, that it is whole, and its row.
 module _ {book : List ℕ} {kind nth : ℕ} {row : List ℕ} (s : Held book kind nth row) where
@@ -81,8 +84,8 @@ module _ {book : List ℕ} {kind nth : ℕ} {row : List ℕ} (s : Held book kind
         )
 
 -- how many entries a section has
-pub none-there : (ws : List ℕ) (j : ℕ) → length kinds ≤ j → (0 ≡ length (read_entries ws j)) × (0 < 65536)
-none-there ws j h = (rw (no-section ws j h), omega arith)
+pub none-there : (ws : List ℕ) (j : ℕ) → length kinds ≤ j → 0 ≡ length (read_entries ws j)
+none-there ws j h = rw (no-section ws j h)
 
 pub count-there : (ws : List ℕ) (j at n : ℕ) → j < length kinds → at ≡ section_at kinds j ws → n ≡ get_or ws at 0
     → n ≡ length (read_entries ws j)
@@ -91,31 +94,38 @@ count-there ws j at n h e f =
     f ∙ ap (λ (i : ℕ). get_or ws i 0) (sym z) ∙ sym (get_or-drop at ws 0 0) ∙ ap (λ (i : ℕ). get_or (drop i ws) 0 0) e
     ∙ sym (count-is ws j h)
 
+-- what the check of a book told
+pub good : (book : List ℕ) {r : Result (Unit {0}) Refusal}
+    → answer_by itself r ≡ on_sound (check_book book) (given tt) → r ≡ Ok tt → check_book book ≡ sound
+good book told e = is-sound (check_book book) (sym (ap (answer_by itself) e) ∙ told)
+
 -- what read_entry answers: a law for each exit
 module _ (book : List ℕ) (j nth : ℕ) (row : List ℕ) where
   abbrev held : Rows
   held = read_entries (numbers_of book) j
 
-  refuses : (n p : ℕ) → read_entry book j nth (length row) ≡ refused n p
-      → RowLeft (read_entry book j nth (length row)) (Refused n p) row row
-  refuses n p e = rw e (record { told = refl; left = refl })
+  refuses : (r : Refusal) → read_entry book j nth (length row) ≡ refused (number_of r.reason) r.place
+      → RowLeft (read_entry book j nth (length row)) (Err r) row row
+  refuses r e = rw e (record { told = refl; left = refl })
 
-  pub tell-broken : (n p : ℕ) → ◌≡◌ {A = Answer (Unit {0})} (refused n p) (on_sound (check_book book) (given tt))
-      → RowLeft (read_entry book j nth (length row)) (Refused n p) row row
+  pub tell-broken : (r : Refusal)
+      → ◌≡◌ {A = Answer (Unit {0})} (refused (number_of r.reason) r.place) (on_sound (check_book book) (given tt))
+      → RowLeft (read_entry book j nth (length row)) (Err r) row row
   unfolding read_entry
-  tell-broken n p e = refuses n p (sym (broken-first (check_book book) n p _ e))
+  tell-broken r e = refuses r (sym (broken-first (check_book book) (number_of r.reason) r.place _ e))
 
-  module _ (good : check_book book ≡ sound) where
-    pub tell-none : length held ≤ nth → RowLeft (read_entry book j nth (length row)) (Refused 6 0) row row
+  module _ (right : check_book book ≡ sound) where
+    pub tell-none : length held ≤ nth → RowLeft (read_entry book j nth (length row)) (Err (at_start NoPlan)) row row
     unfolding read_entry
-    tell-none h = refuses 6 0 (rw (good, le-leb (length held) nth h))
+    tell-none h = refuses (at_start NoPlan) (rw (right, le-leb (length held) nth h))
 
     module _ (there : nth < length held) where
       pub tell-short : length row < 2 * (kind_at j).width
-          → RowLeft (read_entry book j nth (length row)) (Refused 11 0) row row
+          → RowLeft (read_entry book j nth (length row)) (Err (at_start BufferShort)) row row
       unfolding read_entry
       tell-short h =
-          refuses 11 0 (rw (good, lt-leb (length held) nth there, lt-ltb (length row) (2 * (kind_at j).width) h))
+          refuses (at_start BufferShort)
+          (rw (right, lt-leb (length held) nth there, lt-ltb (length row) (2 * (kind_at j).width) h))
 
       -- only a section that is there has entries
       pub known : j < length kinds
@@ -125,11 +135,11 @@ module _ (book : List ℕ) (j nth : ℕ) (row : List ℕ) where
           (λ l. l)
 
       pub tell-row : {after : List ℕ} {width : ℕ} → 2 * (kind_at j).width ≤ length row → width ≡ (kind_at j).width
-          → ShownAt book j nth row after → RowLeft (read_entry book j nth (length row)) (Numbers width) row after
+          → ShownAt book j nth row after → RowLeft (read_entry book j nth (length row)) (Ok width) row after
       unfolding read_entry
       tell-row {after} {width} h w e =
           let is : read_entry book j nth (length row) ≡ given (get_or held nth []) =
-          rw (good, lt-leb (length held) nth there, le-ltb (length row) (2 * (kind_at j).width) h) in
+          rw (right, lt-leb (length held) nth there, le-ltb (length row) (2 * (kind_at j).width) h) in
           let long : length (get_or held nth []) ≡ (kind_at j).width =
           ap length (entry-told (numbers_of book) j known nth there) ∙ row-length (kind_at j) _ in
           rw is (record { told = ap given (w ∙ sym long); left = e })

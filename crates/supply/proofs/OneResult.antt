@@ -1,14 +1,15 @@
 -- Each promise of a public function admits one result: the documents' value tells the code's.
 -- Assumes nothing.
-use mathlib.Core.Path.{◌≡◌, sym, ap}
+use mathlib.Core.Path.{◌≡◌, refl, ap}
+use Rattle.std.specs.Prelude.{Result}
 use Rattle.rules.specs.Supply as paper
-use Rattle.rules.proofs.Answers.{refused-given, given-one}
+use Rattle.refusals.specs.declared.Refusal.{Refusal}
+use Rattle.refusals.specs.Paper.{answer_by}
+use Rattle.refusals.proofs.OneResult.{answer-one}
 use Rattle.severity.proofs.OneResult.{record_back}
 use Rattle.supply.specs.declared.CleanRun.{CleanRun}
 use Rattle.supply.specs.declared.Supply.{Supply}
-use Rattle.supply.specs.declared.Moved.{Moved}
-use Rattle.supply.specs.declared.Moved.TheVariants.{Refused, Given}
-use Rattle.supply.specs.Paper.{supply_paper, moved_paper}
+use Rattle.supply.specs.Paper.{supply_paper}
 
 abbrev clean_back : paper.CleanRun → CleanRun
 clean_back c = record { run = c.run; letter = c.letter; column = c.column }
@@ -21,8 +22,5 @@ pub supply-one : (a b : Supply) → supply_paper a ≡ supply_paper b → a ≡ 
 supply-one a b e = ap supply_back e
 
 -- of update and next
-pub moved-one : (a b : Moved) → moved_paper a ≡ moved_paper b → a ≡ b
-moved-one (Refused n k) (Refused m j) e = cc
-moved-one (Refused n k) (Given s) e = absurd (refused-given e)
-moved-one (Given r) (Refused m j) e = absurd (refused-given (sym e))
-moved-one (Given r) (Given s) e = ap Given (supply-one r s (given-one e))
+pub moved-one : (a b : Result Supply Refusal) → answer_by supply_paper a ≡ answer_by supply_paper b → a ≡ b
+moved-one = answer-one supply_paper supply_back (λ x. refl)

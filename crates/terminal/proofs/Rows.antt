@@ -1,21 +1,65 @@
 -- A staged plan's row, as the code's stores leave it.
 -- Assumes nothing.
 use Prim.Native.Nat.{ℕ, suc, ◌+◌, ◌*◌, ◌/◌, ◌%◌, ◌≤◌, ◌<◌}
-use mathlib.Core.Path.{◌≡◌, sym, ap, ◌∙◌}
-use mathlib.Core.List.{List, ◌++◌}
+use mathlib.Core.Path.{◌≡◌, refl, sym, ap, ◌∙◌}
+use mathlib.Core.List.{List, [], ◌∷◌, ◌++◌, map}
 use native.Mathlib.Omega.{arith}
-use lib.ListN.{length, get_or, set, drop, length-set, length-append, drop_of_length-le}
+use borrow.Rule.Slice.PartMut.{put_mid}
+use lib.ListN.{length, get_or, set, take, drop, length-set, length-append}
 use lib.Seq.{sets, sets-eq, drop-cons}
+use Rattle.std.proofs.lemmas.Slice.{take-put_mid}
+use Rattle.std.proofs.lemmas.List.{append_assoc, drop-drop, take_all, take_more}
 use Rattle.rules.specs.Numbers.{number_bytes}
 use Rattle.rules.specs.Terminal.{row_length}
 use Rattle.rules.proofs.Numbers.{bytes-twice, bytes-append}
 use Rattle.rules.proofs.Stored.{sets-append}
 
--- Seven numbers: what is still to be stored from the i-th on, before the first, past each, and past the last.
-module _ (row ns : List ℕ) (from : ℕ) where
-  pub seven-first : sets row (from + 2 * 0) (number_bytes ns) ≡ sets row from (number_bytes ns)
-  seven-first = let e : from + 2 * 0 ≡ from = omega arith in rw e
+-- One more number of a part of a row is stored ..
+pub stored-next : (part ns new : List ℕ) (i k : ℕ) → i < length ns → get_or ns i 0 < 65536 → 2 * i + 2 ≤ length part
+    → new ≡ (get_or ns i 0 % 256) ∷ (get_or ns i 0 / 256 % 256) ∷ []
+    → take (2 * i) part ≡ number_bytes (take i ns)
+    → take (2 * (i + 1)) (put_mid (2 * i) k part new) ≡ number_bytes (take (i + 1) ns)
+unfolding number_bytes
+stored-next part ns new i k h fits room e laid =
+    let high : get_or ns i 0 / 256 % 256 ≡ get_or ns i 0 / 256 = omega arith in
+    take-put_mid (2 * i) k part new _ (rw e (omega arith)) (omega arith)
+    ∙ rw (e, laid, high, take_more ns i 0 h, bytes-append (take i ns) (get_or ns i 0 ∷ []))
 
+-- .. and then all of them are.
+pub stored-all : (part ns : List ℕ) (i : ℕ) → length part ≡ 2 * i → length ns ≡ i
+    → take (2 * i) part ≡ number_bytes (take i ns) → part ≡ number_bytes ns
+stored-all part ns i h l laid =
+    sym (take_all (2 * i) part (omega arith)) ∙ laid ∙ ap number_bytes (take_all i ns (omega arith))
+
+-- an array that holds what a function gives of each element of another
+pub map-of : {A : Type 0} (f : A → ℕ) (xs : List A) (ys : List ℕ) → length ys ≡ length xs
+    → ((i : ℕ) (d : A) → i < length xs → get_or ys i 0 ≡ f (get_or xs i d)) → ys ≡ map f xs
+map-of f [] [] l h = refl
+map-of f [] (y ∷ ys) l h = absurd (omega arith)
+map-of f (x ∷ xs) [] l h = absurd (omega arith)
+map-of f (x ∷ xs) (y ∷ ys) l h =
+    let first : y ≡ f x = h 0 x (omega arith) in
+    rw (first, map-of f xs ys (omega arith) (λ i d b. h (suc i) d (omega arith)))
+
+-- The three parts make the row ..
+pub parts-whole : (s a r : List ℕ) {rest past : List ℕ} → rest ≡ past
+    → number_bytes s ++ (number_bytes a ++ (number_bytes r ++ rest)) ≡ number_bytes (s ++ (a ++ r)) ++ past
+parts-whole s a r e =
+    rw (
+      e,
+      bytes-append s (a ++ r),
+      bytes-append a r,
+      append_assoc (number_bytes s) (number_bytes a ++ number_bytes r) _,
+      append_assoc (number_bytes a) (number_bytes r) _,
+    )
+
+-- .. before what lies past three parts.
+pub past-parts : (n : ℕ) (row : List ℕ) {one two : List ℕ} → one ≡ drop n row → two ≡ drop n one
+    → drop n two ≡ drop (n + (n + n)) row
+past-parts n row e f = rw (f, e, drop-drop, drop-drop)
+
+-- Stores by their places: one more number of a list, from a place of the row on, ..
+module _ (row ns : List ℕ) (from : ℕ) where
   pub seven-next : (row' : List ℕ) (i : ℕ) → i < length ns
       → row' ≡ set (set row (from + 2 * i) (get_or ns i 0 % 256)) (from + 2 * i + 1) (get_or ns i 0 / 256)
       → (length row' ≡ length row)
@@ -30,13 +74,7 @@ module _ (row ns : List ℕ) (from : ℕ) where
         rw (e, last, high, more, drop-cons ns i 0 h),
       )
 
-  pub seven-done : (start : List ℕ) (i : ℕ) → length ns ≤ i
-      → sets row (from + 2 * i) (number_bytes (drop i ns)) ≡ sets start from (number_bytes ns)
-      → row ≡ sets start from (number_bytes ns)
-  unfolding number_bytes
-  seven-done start i h e = sym (rw (drop_of_length-le ns h)) ∙ e
-
--- The three sevens make the row.
+-- .. and three lists of seven, which make the row.
 module _ (row s a r : List ℕ) (hs : length s ≡ 7) (ha : length a ≡ 7) (hr : length r ≡ 7) where
   abbrev whole : List ℕ
   whole = number_bytes (s ++ (a ++ r))

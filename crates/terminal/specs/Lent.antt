@@ -95,10 +95,6 @@ pub record OutcomeLeft {A : Type 0} (verdict_of : A → Verdict) (answer : Answe
 abbrev pub VerdictLeft : {P : Type 0} → Answer (Judged P Verdict) → ℕ → ℕ → ℕ → ℕ → ℕ → Type 0
 VerdictLeft = OutcomeLeft (λ j. j.verdict)
 
--- the same of a verdict alone
-abbrev pub VerdictTold : Answer Verdict → ℕ → ℕ → ℕ → ℕ → ℕ → Type 0
-VerdictTold = OutcomeLeft (λ v. v)
-
 pub record ClosedLeft {P : Type 0} (answer : Answer (Closed P)) (r : ℕ) (bytes bytes' : List ℕ)
     (accepted accepted' used used' byte byte' : ℕ) : Type 0 where
   pub outcome : OutcomeLeft (λ c. c.judged.verdict) answer r accepted accepted' used used'
@@ -106,9 +102,9 @@ pub record ClosedLeft {P : Type 0} (answer : Answer (Closed P)) (r : ℕ) (bytes
   pub byte_left : byte' ≡ left_by (λ c. byte_of c.event) answer byte
 
 -- What is told has room: a place up to 32,768, up to 14,000 items or readings used, and a lent record of ten bytes.
-abbrev pub VerdictFits : Answer Verdict → Type 0
+abbrev pub VerdictFits : {P : Type 0} → Answer (Judged P Verdict) → Type 0
 VerdictFits (refused n p) = p ≤ 32768
-VerdictFits (given v) = v.used ≤ 14000
+VerdictFits (given j) = j.verdict.used ≤ 14000
 
 abbrev pub ClosedFits : {P : Type 0} → Answer (Closed P) → List ℕ → Type 0
 ClosedFits (refused n p) bytes = p ≤ 32768

@@ -5,8 +5,6 @@ ghost use Rattle.writing.specs.Paper.{lists};
 ghost use Rattle.terminal.specs.Lent.{NumberLeft, WrittenLeft, EntryLeft};
 
 use super::telling::status;
-use showing::{Counted, EntryAnswer};
-use writing::Written;
 
 // The book of five lists of rows; 12 with the position of the first bad entry, then 11.
 #[unsafe(no_mangle)]
@@ -25,12 +23,12 @@ pub extern "C" fn hm_write_book<'a>(
         out.old out.new
         written.old written.new }
 {
-    match sentencing::write_book(reduced, staged, sequential, variables, sigma, out) {
-        Written::Refused(number, place) => status(number, place),
-        Written::Bytes(n) => {
-            *written = n as u32;
+    match sentencing::write_book([reduced, staged, sequential, variables, sigma], out) {
+        Ok(bytes) => {
+            *written = bytes as u32;
             0
         }
+        Err(refusal) => status(refusal),
     }
 }
 
@@ -41,11 +39,11 @@ pub extern "C" fn hm_count_entries(book: &[u8], section: u32, count: &mut u32) -
         count.old count.new }
 {
     match sentencing::count_entries(book, section) {
-        Counted::Refused(number, place) => status(number, place),
-        Counted::Entries(n) => {
-            *count = n;
+        Ok(entries) => {
+            *count = entries;
             0
         }
+        Err(refusal) => status(refusal),
     }
 }
 
@@ -63,10 +61,10 @@ pub extern "C" fn hm_read_entry(
         numbers.old numbers.new }
 {
     match sentencing::read_entry(book, section, nth, row) {
-        EntryAnswer::Refused(number, place) => status(number, place),
-        EntryAnswer::Numbers(n) => {
-            *numbers = n;
+        Ok(width) => {
+            *numbers = width;
             0
         }
+        Err(refusal) => status(refusal),
     }
 }

@@ -3,9 +3,7 @@ ghost use Rattle.rules.specs.Screen.{screen};
 ghost use Rattle.rules.specs.Entries.{judge_single, judge_curtailed, judge_staged, judge_sequential};
 ghost use Rattle.terminal.specs.Lent.{asked, VerdictLeft, ScreenLeft};
 
-use super::telling::{status, tell_verdict};
-use gauge::Shown;
-use plans::Asked;
+use super::telling::{asked, status, tell_verdict};
 
 // The verdict on a single sample.
 #[unsafe(no_mangle)]
@@ -24,15 +22,8 @@ pub extern "C" fn hm_single(
         accepted.old accepted.new
         used.old used.new }
 {
-    let lot = Asked {
-        severity,
-        size,
-        level,
-        column,
-    };
-    let judged = sentencing::judge_single(lot, book, sample);
-    let answer = judged.answer;
-    tell_verdict(answer, accepted, used)
+    let lot = asked(severity, size, level, column);
+    tell_verdict(sentencing::judge_single(lot, book, sample), accepted, used)
 }
 
 // The verdict on a curtailed sample: it ends at the item where its total passes Ac, or at n.
@@ -52,15 +43,12 @@ pub extern "C" fn hm_curtailed(
         accepted.old accepted.new
         used.old used.new }
 {
-    let lot = Asked {
-        severity,
-        size,
-        level,
-        column,
-    };
-    let judged = sentencing::judge_curtailed(lot, book, sample);
-    let answer = judged.answer;
-    tell_verdict(answer, accepted, used)
+    let lot = asked(severity, size, level, column);
+    tell_verdict(
+        sentencing::judge_curtailed(lot, book, sample),
+        accepted,
+        used,
+    )
 }
 
 // The verdict on a staged sample.
@@ -80,15 +68,8 @@ pub extern "C" fn hm_staged(
         accepted.old accepted.new
         used.old used.new }
 {
-    let lot = Asked {
-        severity,
-        size,
-        level,
-        column,
-    };
-    let judged = sentencing::judge_staged(lot, book, sample);
-    let answer = judged.answer;
-    tell_verdict(answer, accepted, used)
+    let lot = asked(severity, size, level, column);
+    tell_verdict(sentencing::judge_staged(lot, book, sample), accepted, used)
 }
 
 // The verdict on a sequential sample.
@@ -108,15 +89,12 @@ pub extern "C" fn hm_sequential(
         accepted.old accepted.new
         used.old used.new }
 {
-    let lot = Asked {
-        severity,
-        size,
-        level,
-        column,
-    };
-    let judged = sentencing::judge_sequential(lot, book, sample);
-    let answer = judged.answer;
-    tell_verdict(answer, accepted, used)
+    let lot = asked(severity, size, level, column);
+    tell_verdict(
+        sentencing::judge_sequential(lot, book, sample),
+        accepted,
+        used,
+    )
 }
 
 // What the screen shows; `both` is 1 where there is a variance.
@@ -133,17 +111,14 @@ pub extern "C" fn hm_screen(
         both.old both.new }
 {
     match gauge::screen(readings) {
-        Shown::Refused(number, place) => status(number, place),
-        Shown::Mean(only) => {
-            *mean = only;
-            *both = 0;
+        Ok(shown) => {
+            *mean = shown.mean;
+            *both = u8::from(shown.variance.is_some());
+            if let Some(squared) = shown.variance {
+                *variance = squared;
+            }
             0
         }
-        Shown::MeanAndVariance(figures) => {
-            *mean = figures.mean;
-            *variance = figures.variance;
-            *both = 1;
-            0
-        }
+        Err(reason) => status(reason.into()),
     }
 }

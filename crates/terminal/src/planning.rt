@@ -1,6 +1,5 @@
 // The plan of a lot before it is drawn, and whether a book is sound.
-ghost use Rattle.std.specs.Prelude.{◌≡◌, ◌+◌, ◌/◌, ◌%◌, ◌≤◌, ◌++◌, length, set, drop};
-ghost use Rattle.std.proofs.lemmas.List.Edits.{sets};
+ghost use Rattle.std.specs.Prelude.{◌≡◌, ◌*◌, ◌≤◌, ◌++◌, length, drop};
 ghost use Rattle.rules.specs.Codes.{table_one_letter};
 ghost use Rattle.rules.specs.Numbers.{number_bytes};
 ghost use Rattle.rules.specs.Entries.{single_plan, fractional_plan, staged_plan, sequential_plan, variables_plan};
@@ -10,11 +9,10 @@ ghost use Rattle.entry.specs.Paper.{staged_paper};
 ghost use Rattle.terminal.specs.Lent.{asked, NumberLeft, PlanLeft, FractionalPlanLeft, StagedPlanLeft};
 ghost use Rattle.terminal.specs.Lent.{SequentialPlanLeft, VariablesPlanLeft, book_checked};
 
-use super::telling::{as_byte, status};
-use book::BookAnswer;
+use super::telling::{asked, status};
 use entry::StagedPlan;
-use history::BUFFER_SHORT;
-use plans::{Asked, LetterAnswer, Outcome};
+use plans::FractionalPlan;
+use refusals::Reason;
 
 // A lent row of a staged plan is that long.
 const ROW_BYTES: usize = 42;
@@ -25,11 +23,11 @@ pub extern "C" fn hm_letter(size: u32, level: u32, letter: &mut u8) -> u32
     ensures { NumberLeft (table_one_letter size level) result letter.old letter.new }
 {
     match plans::letter(size, level) {
-        LetterAnswer::Refused(number, place) => status(number, place),
-        LetterAnswer::Given(found) => {
+        Ok(found) => {
             *letter = found;
             0
         }
+        Err(reason) => status(reason.into()),
     }
 }
 
@@ -54,24 +52,17 @@ pub extern "C" fn hm_plan(
         table_n.old table_n.new
         cut.old cut.new }
 {
-    let lot = Asked {
-        severity,
-        size,
-        level,
-        column,
-    };
-    let planned = sentencing::single_plan(lot, book);
-    let answer = planned.answer;
-    match answer {
-        Outcome::Refused(number, place) => status(number, place),
-        Outcome::Given => {
-            *letter = planned.plan.letter;
-            *n = planned.plan.n;
-            *ac = planned.plan.ac;
-            *table_n = planned.plan.table_n;
-            *cut = as_byte(planned.plan.cut);
+    let lot = asked(severity, size, level, column);
+    match sentencing::single_plan(lot, book) {
+        Ok(plan) => {
+            *letter = plan.letter;
+            *n = plan.n;
+            *ac = plan.ac;
+            *table_n = plan.table_n;
+            *cut = u8::from(plan.cut);
             0
         }
+        Err(refusal) => status(refusal),
     }
 }
 
@@ -98,46 +89,34 @@ pub extern "C" fn hm_fractional_plan(
         table_n.old table_n.new
         cut.old cut.new }
 {
-    let lot = Asked {
-        severity,
-        size,
-        level,
-        column,
-    };
-    let planned = sentencing::fractional_plan(lot, book);
-    let answer = planned.answer;
-    match answer {
-        Outcome::Refused(number, place) => status(number, place),
-        Outcome::Given => {
-            *letter = planned.plan.plan.letter;
-            *n = planned.plan.plan.n;
-            *ac = planned.plan.plan.ac;
-            *share = planned.plan.share;
-            *table_n = planned.plan.plan.table_n;
-            *cut = as_byte(planned.plan.plan.cut);
+    let lot = asked(severity, size, level, column);
+    match sentencing::fractional_plan(lot, book) {
+        Ok(
+            FractionalPlan {
+                plan,
+                share: fraction,
+            },
+        ) => {
+            *letter = plan.letter;
+            *n = plan.n;
+            *ac = plan.ac;
+            *share = fraction;
+            *table_n = plan.table_n;
+            *cut = u8::from(plan.cut);
             0
         }
+        Err(refusal) => status(refusal),
     }
 }
 
-// A number of 16 bits, little-endian.
-fn put_number(row: &mut [u8], at: usize, x: u16)
-    requires { at + 2 ≤ length row.old }
-    ensures { row.new ≡ set (set row.old at (x % 256)) (at + 1) (x / 256) }
+// Numbers of 16 bits, little-endian, over a whole part of a row.
+#[tactic(auto, unfolding(rules::specs::Numbers::number_bytes))]
+fn put_numbers(part: &mut [u8], numbers: &[u16])
+    requires { length part.old ≡ 2 * length numbers.now }
+    ensures { part.new ≡ number_bytes numbers.now }
 {
-    row[at] = (x % 256) as u8;
-    row[at + 1] = (x / 256) as u8;
-}
-
-// Seven numbers put into a row from a place on.
-fn put_seven(row: &mut [u8], from: usize, numbers: [u16; 7])
-    requires { from + 14 ≤ length row.old }
-    ensures { row.new ≡ sets row.old from (number_bytes numbers) }
-{
-    let mut i = 0;
-    while i < 7 {
-        put_number(row, from + 2 * i, numbers[i]);
-        i += 1;
+    for (i, x) in numbers.iter().enumerate() {
+        part[2 * i..2 * i + 2].copy_from_slice(&x.to_le_bytes());
     }
 }
 
@@ -146,12 +125,11 @@ fn put_row(row: &mut [u8], plan: StagedPlan)
     requires { row_length ≤ length row.old }
     ensures { row.new ≡ row_bytes (staged_paper plan) ++ drop row_length row.old }
 {
-    let sizes = plan.sizes;
-    let acs = plan.acs;
-    let res = plan.res;
-    put_seven(row, 0, sizes);
-    put_seven(row, 14, acs);
-    put_seven(row, 28, res);
+    let (sizes, rest) = row.split_at_mut(14);
+    let (acs, rest) = rest.split_at_mut(14);
+    put_numbers(sizes, &plan.stages.map(|stage| stage.size));
+    put_numbers(acs, &plan.stages.map(|stage| stage.ac));
+    put_numbers(&mut rest[..14], &plan.stages.map(|stage| stage.re));
 }
 
 // The staged plan of a lot: its number of stages, and its row, 0 past its stages.
@@ -173,26 +151,16 @@ pub extern "C" fn hm_staged_plan(
         stages.old stages.new
         row.old row.new }
 {
-    let lot = Asked {
-        severity,
-        size,
-        level,
-        column,
-    };
-    let planned = sentencing::staged_plan(lot, book);
-    let answer = planned.answer;
-    match answer {
-        Outcome::Refused(number, place) => status(number, place),
-        Outcome::Given => {
-            if row.len() < ROW_BYTES {
-                return status(BUFFER_SHORT, 0);
-            }
-            let plan = planned.plan;
-            *letter = planned.letter;
-            *stages = plan.stages;
-            put_row(row, plan);
+    let lot = asked(severity, size, level, column);
+    match sentencing::staged_plan(lot, book) {
+        Ok(_) if row.len() < ROW_BYTES => status(Reason::BufferShort.into()),
+        Ok(found) => {
+            *letter = found.letter;
+            *stages = found.plan.count;
+            put_row(row, found.plan);
             0
         }
+        Err(refusal) => status(refusal),
     }
 }
 
@@ -221,25 +189,18 @@ pub extern "C" fn hm_sequential_plan(
         nt.old nt.new
         at.old at.new }
 {
-    let lot = Asked {
-        severity,
-        size,
-        level,
-        column,
-    };
-    let planned = sentencing::sequential_plan(lot, book);
-    let answer = planned.answer;
-    match answer {
-        Outcome::Refused(number, place) => status(number, place),
-        Outcome::Given => {
-            *letter = planned.letter;
-            *ha = planned.plan.ha;
-            *hr = planned.plan.hr;
-            *g = planned.plan.g;
-            *nt = planned.plan.nt;
-            *at = planned.plan.at_nt;
+    let lot = asked(severity, size, level, column);
+    match sentencing::sequential_plan(lot, book) {
+        Ok(found) => {
+            *letter = found.letter;
+            *ha = found.plan.ha;
+            *hr = found.plan.hr;
+            *g = found.plan.g;
+            *nt = found.plan.nt;
+            *at = found.plan.at_nt;
             0
         }
+        Err(refusal) => status(refusal),
     }
 }
 
@@ -262,22 +223,15 @@ pub extern "C" fn hm_variables_plan(
         n.old n.new
         k.old k.new }
 {
-    let lot = Asked {
-        severity,
-        size,
-        level,
-        column,
-    };
-    let planned = sentencing::variables_plan(lot, book);
-    let answer = planned.answer;
-    match answer {
-        Outcome::Refused(number, place) => status(number, place),
-        Outcome::Given => {
-            *letter = planned.letter;
-            *n = planned.plan.n;
-            *k = planned.plan.k;
+    let lot = asked(severity, size, level, column);
+    match sentencing::variables_plan(lot, book) {
+        Ok(found) => {
+            *letter = found.letter;
+            *n = found.plan.n;
+            *k = found.plan.k;
             0
         }
+        Err(refusal) => status(refusal),
     }
 }
 
@@ -287,7 +241,7 @@ pub extern "C" fn hm_check_book(book: &[u8]) -> u32
     ensures { result ≡ status_of (book_checked book.now) }
 {
     match book::check_book(book) {
-        BookAnswer::Refused(number, place) => status(number, place),
-        BookAnswer::Sound => 0,
+        Ok(()) => 0,
+        Err(refusal) => status(refusal),
     }
 }

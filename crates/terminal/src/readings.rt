@@ -2,57 +2,10 @@
 ghost use Rattle.std.specs.Prelude.{true, false};
 ghost use Rattle.rules.specs.Limits.{estimated, known, both};
 ghost use Rattle.rules.specs.Entries.{judge_limit, judge_sides};
-ghost use Rattle.plans.specs.Paper.{asked_paper};
-ghost use Rattle.gauge.specs.Paper.{spread_paper};
 ghost use Rattle.terminal.specs.Lent.{asked, VerdictLeft};
 
-use super::telling::tell_verdict;
-use gauge::Spread;
-use plans::Asked;
-
-// One limit, upper or lower.
-fn tell_limit(
-    method: Spread,
-    above: bool,
-    lot: Asked,
-    book: &[u8],
-    readings: &[u8],
-    limit: i32,
-    accepted: &mut u8,
-    used: &mut u16,
-) -> u32
-    ensures { VerdictLeft
-        (judge_limit (spread_paper method) above (asked_paper lot) book.now limit readings.now) result
-        accepted.old accepted.new
-        used.old used.new }
-{
-    let judged = sentencing::judge_limit(method, above, lot, book, limit, readings);
-    let answer = judged.answer;
-    tell_verdict(answer, accepted, used)
-}
-
-// An upper limit under the lot's column, and a lower one under another.
-fn tell_sides(
-    method: Spread,
-    lot: Asked,
-    lower_column: u32,
-    book: &[u8],
-    readings: &[u8],
-    upper: i32,
-    lower: i32,
-    accepted: &mut u8,
-    used: &mut u16,
-) -> u32
-    ensures { VerdictLeft
-        (judge_sides (spread_paper method) (both upper lower) (asked_paper lot) lower_column
-        book.now readings.now) result
-        accepted.old accepted.new
-        used.old used.new }
-{
-    let judged = sentencing::judge_sides(method, lot, lower_column, book, upper, lower, readings);
-    let answer = judged.answer;
-    tell_verdict(answer, accepted, used)
-}
+use super::telling::{asked, tell_verdict};
+use gauge::{Limit, Spread};
 
 // The verdict on readings by the s method, for an upper limit.
 #[unsafe(no_mangle)]
@@ -73,22 +26,10 @@ pub extern "C" fn hm_variables_upper(
         accepted.old accepted.new
         used.old used.new }
 {
-    let lot = Asked {
-        severity,
-        size,
-        level,
-        column,
-    };
-    tell_limit(
-        Spread::Estimated,
-        true,
-        lot,
-        book,
-        readings,
-        limit,
-        accepted,
-        used,
-    )
+    let lot = asked(severity, size, level, column);
+    let limit = Limit::Upper(limit);
+    let judged = sentencing::judge_limit(Spread::Estimated, limit, lot, book, readings);
+    tell_verdict(judged, accepted, used)
 }
 
 // The verdict on readings by the s method, for a lower limit.
@@ -110,22 +51,10 @@ pub extern "C" fn hm_variables_lower(
         accepted.old accepted.new
         used.old used.new }
 {
-    let lot = Asked {
-        severity,
-        size,
-        level,
-        column,
-    };
-    tell_limit(
-        Spread::Estimated,
-        false,
-        lot,
-        book,
-        readings,
-        limit,
-        accepted,
-        used,
-    )
+    let lot = asked(severity, size, level, column);
+    let limit = Limit::Lower(limit);
+    let judged = sentencing::judge_limit(Spread::Estimated, limit, lot, book, readings);
+    tell_verdict(judged, accepted, used)
 }
 
 // The verdict on readings by the s method, for two limits.
@@ -149,23 +78,17 @@ pub extern "C" fn hm_variables_both(
         accepted.old accepted.new
         used.old used.new }
 {
-    let lot = Asked {
-        severity,
-        size,
-        level,
-        column: upper_column,
-    };
-    tell_sides(
+    let lot = asked(severity, size, level, upper_column);
+    let judged = sentencing::judge_sides(
         Spread::Estimated,
         lot,
         lower_column,
         book,
-        readings,
         upper,
         lower,
-        accepted,
-        used,
-    )
+        readings,
+    );
+    tell_verdict(judged, accepted, used)
 }
 
 // The verdict on readings with a known spread, for an upper limit.
@@ -188,22 +111,10 @@ pub extern "C" fn hm_sigma_upper(
         accepted.old accepted.new
         used.old used.new }
 {
-    let lot = Asked {
-        severity,
-        size,
-        level,
-        column,
-    };
-    tell_limit(
-        Spread::Known(sigma),
-        true,
-        lot,
-        book,
-        readings,
-        limit,
-        accepted,
-        used,
-    )
+    let lot = asked(severity, size, level, column);
+    let limit = Limit::Upper(limit);
+    let judged = sentencing::judge_limit(Spread::Known(sigma), limit, lot, book, readings);
+    tell_verdict(judged, accepted, used)
 }
 
 // The verdict on readings with a known spread, for a lower limit.
@@ -226,22 +137,10 @@ pub extern "C" fn hm_sigma_lower(
         accepted.old accepted.new
         used.old used.new }
 {
-    let lot = Asked {
-        severity,
-        size,
-        level,
-        column,
-    };
-    tell_limit(
-        Spread::Known(sigma),
-        false,
-        lot,
-        book,
-        readings,
-        limit,
-        accepted,
-        used,
-    )
+    let lot = asked(severity, size, level, column);
+    let limit = Limit::Lower(limit);
+    let judged = sentencing::judge_limit(Spread::Known(sigma), limit, lot, book, readings);
+    tell_verdict(judged, accepted, used)
 }
 
 // The verdict on readings with a known spread, for two limits.
@@ -266,21 +165,15 @@ pub extern "C" fn hm_sigma_both(
         accepted.old accepted.new
         used.old used.new }
 {
-    let lot = Asked {
-        severity,
-        size,
-        level,
-        column: upper_column,
-    };
-    tell_sides(
+    let lot = asked(severity, size, level, upper_column);
+    let judged = sentencing::judge_sides(
         Spread::Known(sigma),
         lot,
         lower_column,
         book,
-        readings,
         upper,
         lower,
-        accepted,
-        used,
-    )
+        readings,
+    );
+    tell_verdict(judged, accepted, used)
 }

@@ -6,10 +6,7 @@ ghost use Rattle.rules.specs.Entries.{close_fractional};
 ghost use Rattle.rules.specs.Terminal.{supply_in};
 ghost use Rattle.terminal.specs.Lent.{offered, once, again, VerdictLeft, ClosedLeft, NextLeft, ListLeft};
 
-use super::telling::{put_back, status, take_up, tell_closed, tell_verdict, wide_status};
-use closing::Offered;
-use history::Listed;
-use supply::Moved;
+use super::telling::{offered, put_back, status, take_up, tell_closed, tell_verdict, wide_status};
 
 // What a history byte makes of a lent record.
 #[unsafe(no_mangle)]
@@ -17,13 +14,12 @@ pub extern "C" fn hm_next(supply: &mut [u8], event: u32) -> u32
     ensures { NextLeft (next ours (supply_in supply.old) event) result
         supply.old supply.new }
 {
-    let old = take_up(supply);
-    match sentencing::next(old, event) {
-        Moved::Refused(number, place) => status(number, place),
-        Moved::Given(new) => {
+    match sentencing::next(take_up(supply), event) {
+        Ok(new) => {
             put_back(supply, new);
             0
         }
+        Err(refusal) => status(refusal),
     }
 }
 
@@ -49,16 +45,9 @@ pub extern "C" fn hm_close_single(
         used.old used.new
         byte.old byte.new }
 {
-    let old = take_up(supply);
-    let lot = Offered {
-        again: resubmitted != 0,
-        size,
-        level,
-        column,
-    };
-    let closed = sentencing::close_single(old, lot, book, sample);
-    let answer = closed.answer;
-    tell_closed(answer, supply, accepted, used, byte)
+    let lot = offered(resubmitted, size, level, column);
+    let closed = sentencing::close_single(take_up(supply), lot, book, sample);
+    tell_closed(closed, supply, accepted, used, byte)
 }
 
 // A lot closed from a curtailed sample; `resubmitted` 0 is an original lot.
@@ -83,16 +72,9 @@ pub extern "C" fn hm_close_curtailed(
         used.old used.new
         byte.old byte.new }
 {
-    let old = take_up(supply);
-    let lot = Offered {
-        again: resubmitted != 0,
-        size,
-        level,
-        column,
-    };
-    let closed = sentencing::close_curtailed(old, lot, book, sample);
-    let answer = closed.answer;
-    tell_closed(answer, supply, accepted, used, byte)
+    let lot = offered(resubmitted, size, level, column);
+    let closed = sentencing::close_curtailed(take_up(supply), lot, book, sample);
+    tell_closed(closed, supply, accepted, used, byte)
 }
 
 // A lot closed from a staged sample; `resubmitted` 0 is an original lot.
@@ -117,16 +99,9 @@ pub extern "C" fn hm_close_staged(
         used.old used.new
         byte.old byte.new }
 {
-    let old = take_up(supply);
-    let lot = Offered {
-        again: resubmitted != 0,
-        size,
-        level,
-        column,
-    };
-    let closed = sentencing::close_staged(old, lot, book, sample);
-    let answer = closed.answer;
-    tell_closed(answer, supply, accepted, used, byte)
+    let lot = offered(resubmitted, size, level, column);
+    let closed = sentencing::close_staged(take_up(supply), lot, book, sample);
+    tell_closed(closed, supply, accepted, used, byte)
 }
 
 // The verdict in the mode of fractions, by a lent record that stays as it is.
@@ -147,16 +122,9 @@ pub extern "C" fn hm_fractional(
         accepted.old accepted.new
         used.old used.new }
 {
-    let old = take_up(supply);
-    let lot = Offered {
-        again: false,
-        size,
-        level,
-        column,
-    };
-    let judged = sentencing::judge_fractional(old, lot, book, sample);
-    let answer = judged.answer;
-    tell_verdict(answer, accepted, used)
+    let lot = offered(0, size, level, column);
+    let judged = sentencing::judge_fractional(take_up(supply), lot, book, sample);
+    tell_verdict(judged, accepted, used)
 }
 
 // A lot closed in the mode of fractions; `resubmitted` 0 is an original lot.
@@ -181,16 +149,9 @@ pub extern "C" fn hm_close_fractional(
         used.old used.new
         byte.old byte.new }
 {
-    let old = take_up(supply);
-    let lot = Offered {
-        again: resubmitted != 0,
-        size,
-        level,
-        column,
-    };
-    let closed = sentencing::close_fractional(old, lot, book, sample);
-    let answer = closed.answer;
-    tell_closed(answer, supply, accepted, used, byte)
+    let lot = offered(resubmitted, size, level, column);
+    let closed = sentencing::close_fractional(take_up(supply), lot, book, sample);
+    tell_closed(closed, supply, accepted, used, byte)
 }
 
 // The severities of a history, exactly as many as it has bytes.
@@ -199,7 +160,7 @@ pub extern "C" fn hm_list(history: &[u8], severities: &mut [u8]) -> u64
     ensures { ListLeft history.now result severities.old severities.new }
 {
     match sentencing::list_severities(history, severities) {
-        Listed::Refused(number, place) => wide_status(number, place),
-        Listed::Given(_) => 0,
+        Ok(_) => 0,
+        Err(refusal) => wide_status(refusal),
     }
 }

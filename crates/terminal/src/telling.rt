@@ -1,65 +1,79 @@
 // What a C caller is told: a status, a verdict, a lot closed, and the record in lent bytes.
 ghost use Rattle.std.specs.Prelude.{◌≡◌, ◌+◌, ◌*◌, ◌≤◌, min, length};
-ghost use Rattle.rules.specs.Terminal.{record_bytes, largest_place, flag, bytes_of, out_of_form, supply_in};
-ghost use Rattle.plans.specs.Paper.{verdict_answer};
+ghost use Rattle.rules.specs.Terminal.{record_bytes, largest_place, bytes_of, out_of_form, supply_in};
+ghost use Rattle.refusals.specs.Paper.{answer_by, number_of, itself};
+ghost use Rattle.plans.specs.Paper.{asked_paper, judged_by};
 ghost use Rattle.supply.specs.Paper.{supply_paper};
-ghost use Rattle.closing.specs.Paper.{closed_paper};
-ghost use Rattle.terminal.specs.Lent.{VerdictFits, VerdictTold, ClosedFits, ClosedLeft};
+ghost use Rattle.closing.specs.Paper.{offered_paper, closed_by};
+ghost use Rattle.terminal.specs.Lent.{asked, offered, again, VerdictFits, VerdictLeft, ClosedFits, ClosedLeft};
 
-use closing::ClosedAnswer;
-use plans::VerdictAnswer;
+use closing::{Closed, Offered};
+use plans::{Asked, Judged};
+use refusals::Refusal;
 use severity::Record;
 use supply::{CleanRun, Supply};
 
-const RECORD_BYTES: usize = 10;
+// A place of 56 bits: the most that a status of 64 tells.
+const LARGEST_PLACE: u64 = u64::MAX >> 8;
+
+// The lot that a call asks about.
+pub(crate) fn asked(severity: u32, size: u32, level: u32, column: u32) -> Asked
+    ensures { asked_paper result ≡ asked severity size level column }
+{
+    Asked {
+        severity,
+        size,
+        level,
+        column,
+    }
+}
+
+// The lot that a call closes; `resubmitted` 0 is an original lot.
+pub(crate) fn offered(resubmitted: u32, size: u32, level: u32, column: u32) -> Offered
+    ensures { offered_paper result ≡ offered (again resubmitted) size level column }
+{
+    Offered {
+        again: resubmitted != 0,
+        size,
+        level,
+        column,
+    }
+}
 
 // A refusal's status: its number in the low byte, its place above it.
-pub(crate) fn status(number: u8, place: usize) -> u32
-    requires { place ≤ 32768 }
-    ensures { result ≡ number + 256 * place }
+pub(crate) fn status(refusal: Refusal) -> u32
+    requires { refusal.place ≤ 32768 }
+    ensures { result ≡ number_of refusal.reason + 256 * refusal.place }
 {
-    number as u32 + 256 * (place as u32)
+    refusal.reason.number() as u32 + 256 * (refusal.place as u32)
 }
 
 // The same in 64 bits, of a history of any length: a place past 56 bits is told as the last.
-pub(crate) fn wide_status(number: u8, place: usize) -> u64
-    ensures { result ≡ number + 256 * min place largest_place }
+pub(crate) fn wide_status(refusal: Refusal) -> u64
+    ensures { result ≡ number_of refusal.reason + 256 * min refusal.place largest_place }
 {
-    let told = place as u64;
-    if told < 72057594037927935 {
-        return number as u64 + 256 * told;
-    }
-    number as u64 + 256 * 72057594037927935
-}
-
-pub(crate) fn as_byte(b: bool) -> u8
-    ensures { result ≡ flag b }
-{
-    if b { 1 } else { 0 }
-}
-
-// The items used have 16 bits.
-fn narrow(used: u32) -> u16
-    requires { used ≤ 14000 }
-    ensures { result ≡ used }
-{
-    used as u16
+    let place = (refusal.place as u64).min(LARGEST_PLACE);
+    refusal.reason.number() as u64 + 256 * place
 }
 
 // A verdict: accepted or not, and the items or readings used.
-pub(crate) fn tell_verdict(answer: VerdictAnswer, accepted: &mut u8, used: &mut u16) -> u32
-    requires { VerdictFits (verdict_answer answer) }
-    ensures { VerdictTold (verdict_answer answer) result
+pub(crate) fn tell_verdict<P: Copy>(
+    answer: Result<Judged<P>, Refusal>,
+    accepted: &mut u8,
+    used: &mut u16,
+) -> u32
+    requires { VerdictFits (answer_by (judged_by itself) answer) }
+    ensures { VerdictLeft (answer_by (judged_by itself) answer) result
         accepted.old accepted.new
         used.old used.new }
 {
     match answer {
-        VerdictAnswer::Refused(number, place) => status(number, place),
-        VerdictAnswer::Given(verdict) => {
-            *accepted = as_byte(verdict.accepted);
-            *used = narrow(verdict.used);
+        Ok(judged) => {
+            *accepted = u8::from(judged.verdict.accepted);
+            *used = judged.verdict.used as u16;
             0
         }
+        Err(refusal) => status(refusal),
     }
 }
 
@@ -69,91 +83,94 @@ fn out_of_form() -> Supply
 {
     let switching = Record {
         severity: 4,
-        score: 0,
-        run: 0,
-        count: 0,
-        window: 0,
-        steady: false,
-        permission: false,
+        ..Record::default()
     };
-    let clean = CleanRun {
-        run: 0,
-        letter: 0,
-        column: 0,
-    };
-    Supply { switching, clean }
+    Supply {
+        switching,
+        clean: CleanRun::default(),
+    }
 }
 
 // The record that lent bytes hold.
+#[tactic(auto, unfolding(rules::specs::Terminal::supply_in, rules::specs::Terminal::has_form))]
 pub(crate) fn take_up(bytes: &[u8]) -> Supply
     ensures { supply_paper result ≡ supply_in bytes.now }
 {
-    if bytes.len() != RECORD_BYTES {
-        return out_of_form();
+    match *bytes {
+        [
+            severity,
+            score,
+            run,
+            count,
+            window,
+            steady,
+            permission,
+            clean_run,
+            letter,
+            column,
+        ] if steady <= 1 && permission <= 1 => {
+            let switching = Record {
+                severity,
+                score,
+                run,
+                count,
+                window,
+                steady: steady == 1,
+                permission: permission == 1,
+            };
+            let clean = CleanRun {
+                run: clean_run,
+                letter,
+                column,
+            };
+            Supply { switching, clean }
+        }
+        _ => out_of_form(),
     }
-    if 1 < bytes[5] {
-        return out_of_form();
-    }
-    if 1 < bytes[6] {
-        return out_of_form();
-    }
-    let switching = Record {
-        severity: bytes[0],
-        score: bytes[1],
-        run: bytes[2],
-        count: bytes[3],
-        window: bytes[4],
-        steady: bytes[5] == 1,
-        permission: bytes[6] == 1,
-    };
-    let clean = CleanRun {
-        run: bytes[7],
-        letter: bytes[8],
-        column: bytes[9],
-    };
-    Supply { switching, clean }
 }
 
 pub(crate) fn put_back(bytes: &mut [u8], new: Supply)
     requires { length bytes.old ≡ record_bytes }
     ensures { bytes.new ≡ bytes_of (supply_paper new) }
 {
-    bytes[0] = new.switching.severity;
-    bytes[1] = new.switching.score;
-    bytes[2] = new.switching.run;
-    bytes[3] = new.switching.count;
-    bytes[4] = new.switching.window;
-    bytes[5] = as_byte(new.switching.steady);
-    bytes[6] = as_byte(new.switching.permission);
-    bytes[7] = new.clean.run;
-    bytes[8] = new.clean.letter;
-    bytes[9] = new.clean.column;
+    let Supply { switching, clean } = new;
+    bytes.copy_from_slice(&[
+        switching.severity,
+        switching.score,
+        switching.run,
+        switching.count,
+        switching.window,
+        u8::from(switching.steady),
+        u8::from(switching.permission),
+        clean.run,
+        clean.letter,
+        clean.column,
+    ]);
 }
 
 // A lot closed: the next record, the verdict, and the history byte that the lot stands for.
-pub(crate) fn tell_closed(
-    answer: ClosedAnswer,
+pub(crate) fn tell_closed<P: Copy>(
+    answer: Result<Closed<P>, Refusal>,
     supply: &mut [u8],
     accepted: &mut u8,
     used: &mut u16,
     byte: &mut u8,
 ) -> u32
-    requires { ClosedFits (closed_paper answer) supply.old }
-    ensures { ClosedLeft (closed_paper answer) result
+    requires { ClosedFits (answer_by (closed_by itself) answer) supply.old }
+    ensures { ClosedLeft (answer_by (closed_by itself) answer) result
         supply.old supply.new
         accepted.old accepted.new
         used.old used.new
         byte.old byte.new }
 {
     match answer {
-        ClosedAnswer::Refused(number, place) => status(number, place),
-        ClosedAnswer::Given(closed) => {
+        Ok(closed) => {
             put_back(supply, closed.supply_after);
-            *accepted = as_byte(closed.verdict.accepted);
-            *used = narrow(closed.verdict.used);
-            let event = closed.event;
-            *byte = severity::byte_of(event);
+            *accepted = u8::from(closed.judged.verdict.accepted);
+            *used = closed.judged.verdict.used as u16;
+            *byte = severity::byte_of(closed.event);
             0
         }
+        Err(refusal) => status(refusal),
     }
 }

@@ -1,116 +1,131 @@
 -- The loops over the rows of a list and over the lists: a law for each step.
 -- Assumes nothing.
-use Prim.Native.Nat.{ℕ, suc, ◌+◌, ◌-◌, ◌*◌, ◌≤◌, ◌<◌}
+use Prim.Native.Nat.{ℕ, suc, ◌+◌, ◌*◌, ◌≤◌, ◌<◌}
 use mathlib.Core.Path.{◌≡◌, refl, ap, sym, ◌∙◌}
 use mathlib.Core.Bool.{Bool, true, false, cond}
-use mathlib.Core.List.{List, [], ◌∷◌}
+use mathlib.Core.List.{List, [], ◌∷◌, ◌++◌}
 use native.Mathlib.Omega.{arith}
 use native.Mathlib.Numerals.{add-one}
-use lib.ListN.{length, get_or, take, drop, length-drop, length-take, length-append, drop_of_length-le}
-use lib.Seq.{take-nil, drop-cons}
+use lib.ListN.{length, get_or, take, drop, length-append, drop_of_length-le}
+use lib.Seq.{take-nil, take-take, take_at, drop_at, take_all, drop-cons}
+use Rattle.std.proofs.lemmas.List.{nil_from_length, append-nil, get_or-map}
+use Rattle.std.specs.Borrow.{Bor}
+use Rattle.std.proofs.Common.{min, Some, None, Ok, Err}
+use Rattle.rules.proofs.Bounded.{by-le}
 use Rattle.rules.specs.Numbers.{numbers_of}
 use Rattle.rules.specs.Book.{Kind, size_of, key_of, kinds, kind_at, variables, Checked, sound, broken_at}
 use Rattle.rules.specs.Writing.{Rows, entry_in_row, row_right, check_rows, check_lists, laid, left_out, laid_section}
-use Rattle.rules.specs.Writing.{laid_lists}
+use Rattle.rules.specs.Writing.{laid_lists, rows_in}
 use Rattle.rules.proofs.LookUp.{broken-unsound}
 use Rattle.rules.proofs.Numbers.{numbers-low, numbers-take}
 use Rattle.rules.proofs.RowLaws.{Rowed, rowed, in-row-length}
 use Rattle.rules.proofs.Written.{right-so}
-use Rattle.rules.proofs.LentRows.{rows-next, rows-done}
+use Rattle.rules.proofs.LentRows.{rows-next}
 use Rattle.rules.proofs.FewKeys.{few-right, bad-near, laid-short}
 use Rattle.rows.specs.Paper.{row_size}
-use Rattle.writing.specs.Paper.{rows_of, section_size, InList, InLists, ListChecked, ListsChecked}
-use Rattle.writing.specs.declared.ListCheck.TheVariants.{Bad, Right}
+use Rattle.writing.specs.Paper.{lent, all_rows, section_size, InList, InLists, ListChecked, ListsChecked}
+use Rattle.writing.specs.declared.Count.{Count}
 
--- what the size of a row tells: 0 of one that is not right
-module _ (k : Kind) (r : Rowed k) (before row : List ℕ) (size : ℕ) (told : size ≡ row_size k before row) where
-  none-wrong : size ≡ 0 → row_right k before row ≡ false
-  none-wrong z = go (row_right k before row) refl told
+-- what the size of a row tells: none of one that is not right
+module _ (k : Kind) (before row : List ℕ) where
+  none-wrong : None ≡ row_size k before row → row_right k before row ≡ false
+  none-wrong told = go (row_right k before row) refl told
     where
-      go : (t : Bool) → row_right k before row ≡ t → size ≡ cond t (size_of k row) 0 → row_right k before row ≡ false
-      go true e q = absurd (omega (arith, r.deep (get_or row k.key 0)))
+      go : (t : Bool) → row_right k before row ≡ t → None ≡ cond t (Some (size_of k row)) None
+          → row_right k before row ≡ false
+      go true e q = cc
       go false e q = e
 
-  some-right : 0 < size → (row_right k before row ≡ true) × (size ≡ size_of k row)
-  some-right h = go (row_right k before row) refl told
+  some-right : {size : ℕ} → Some size ≡ row_size k before row
+      → (row_right k before row ≡ true) × (size ≡ size_of k row)
+  some-right {size} told = go (row_right k before row) refl told
     where
-      go : (t : Bool) → row_right k before row ≡ t → size ≡ cond t (size_of k row) 0
+      go : (t : Bool) → row_right k before row ≡ t → Some size ≡ cond t (Some (size_of k row)) None
           → (row_right k before row ≡ true) × (size ≡ size_of k row)
-      go true e q = (e, q)
-      go false e q = absurd (omega arith)
+      go true e q = (e, cc)
+      go false e q = cc
+
+-- The first of the rows that are to come, and the rest of them.
+pub record Chunk (k : Kind) (bytes row rest : List ℕ) : Type 0 where
+  pub parts : bytes ≡ row ++ rest
+  pub split : all_rows k bytes ≡ numbers_of row ∷ all_rows k rest
+  pub own : take k.width (numbers_of row) ≡ numbers_of row
+
+-- cut off by a chunk's length
+cut-off : (n : ℕ) (row rest : List ℕ) → length row ≡ min n (length (row ++ rest))
+    → (take n (row ++ rest) ≡ row) × (drop n (row ++ rest) ≡ rest)
+cut-off n row rest h =
+    let sum : length (row ++ rest) ≡ length row + length rest = length-append row rest in
+    by-le n (length row)
+    (λ l.
+    let e : length row ≡ n = omega arith in
+    (take_at row rest n e, drop_at row rest n e))
+    (λ l.
+    let none : rest ≡ [] = nil_from_length rest (omega arith) in
+    rw (none, append-nil) (take_all n row (omega arith), drop_of_length-le row (omega arith)))
+
+pub chunk-is : {k : Kind} → Rowed k → (size : ℕ) → size ≡ 2 * k.width → (bytes row rest : List ℕ) → bytes ≡ row ++ rest
+    → length row ≡ min size (length bytes) → 0 < length bytes → Chunk k bytes row rest
+chunk-is {k} r size e bytes row rest parts long some =
+    let w = k.width in
+    let z : 0 + 2 * w ≡ 2 * w = omega arith in
+    let o = cut-off (2 * w) row rest (long ∙ rw (e, parts)) in
+    let now : numbers_of row ≡ take w (numbers_of bytes) =
+    ap numbers_of (sym o.0) ∙ numbers-take (row ++ rest) w ∙ rw (← parts) in
+    record {
+      parts = parts;
+      split =
+          rows-next w (omega (arith, r.wide)) bytes 0 some
+          ∙ rw (z, now, ← o.1, ← parts);
+      own = rw now (take-take w w (numbers_of bytes) (omega arith));
+    }
 
 -- the loop over the rows of a list
-module _ (k : Kind) (r : Rowed k) (list : List ℕ) where
-  pub list-opens : InList k list 0 0 0 0
+module _ {k : Kind} (r : Rowed k) (list : List ℕ) where
+  pub list-opens : (count : Count) → (count.rows ≡ 0) × (count.numbers ≡ 0) → InList k list [] list count
   unfolding numbers_of
-  list-opens =
+  list-opens count none =
       record {
-        after = omega arith;
-        within = omega arith;
         few = omega arith;
         short = omega arith;
-        checks = rw (take-nil {A = ℕ} k.key);
+        checks = rw (take-nil {A = ℕ} k.key, none.0);
         counts = omega arith;
         sizes = omega arith;
       }
 
-  module _ {prev at i size : ℕ} (s : InList k list prev at i size) where
-    abbrev key : List ℕ
-    key = key_of k (numbers_of (take (at - prev) (drop prev list)))
-
-    abbrev row : List ℕ
-    row = take k.width (numbers_of (drop at list))
-
-    abbrev later : Rows
-    later = rows_of k (drop (at + 2 * k.width) list)
-
-    split : at < length list → rows_of k (drop at list) ≡ row ∷ later
-    split h = rows-next k.width (omega (arith, r.wide)) list at h
-
-    pub list-bad : {more : ℕ} → at < length list → more ≡ row_size k key row → more ≡ 0
-        → ListChecked k (rows_of k list) (Bad i)
+  module _ {before bytes row rest : List ℕ} {count : Count} (s : InList k list before bytes count)
+      (c : Chunk k bytes row rest) where
+    pub list-bad : None ≡ row_size k (key_of k (numbers_of before)) (take k.width (numbers_of row))
+        → ListChecked k (all_rows k list) (Err count.rows)
     unfolding check_rows
-    list-bad h told z = s.checks ∙ rw (split h, none-wrong k r key row _ told z)
+    list-bad told =
+        let told' = rw c.own at told in
+        s.checks ∙ rw (c.split, none-wrong k (key_of k (numbers_of before)) (numbers_of row) told')
 
-    pub list-next : {more : ℕ} → at < length list → more ≡ row_size k key row → 0 < more
-        → InList k list at (at + 2 * k.width) (i + 1) (size + more)
+    pub list-next : {more : ℕ} → Some more ≡ row_size k (key_of k (numbers_of before)) (take k.width (numbers_of row))
+        → InList k list row rest (record { rows = count.rows + 1; numbers = count.numbers + more })
     unfolding check_rows laid
-    list-next {more} h told some =
-        let w = k.width in
-        let t = some-right k r key row more told some in
-        let right = right-so k r key row t.0 in
-        let there : at + 2 * w ≤ length list =
-        omega (
-          arith,
-          right.whole,
-          length-take w (numbers_of (drop at list)),
-          numbers-low (drop at list),
-          length-drop at list,
-        ) in
-        let step : at + 2 * w - at ≡ 2 * w = omega arith in
-        let same : numbers_of (take (at + 2 * w - at) (drop at list)) ≡ row =
-        rw step (numbers-take (drop at list) w) in
+    list-next {more} told =
+        let key = key_of k (numbers_of before) in
+        let now = numbers_of row in
+        let t = some-right k key now (rw c.own at told) in
+        let right = right-so k r key now t.0 in
+        let long : length bytes ≡ length row + length rest = ap length c.parts ∙ length-append row rest in
         record {
-          after = omega arith;
-          within = there;
-          few = omega (arith, s.few, r.wide);
-          short = omega (arith, s.short, t.1, right.fits);
-          checks = s.checks ∙ rw (split h, t.0, same, add-one i);
-          counts = s.counts ∙ rw (split h) (omega arith);
+          few = omega (arith, s.few, r.wide, right.whole, numbers-low row);
+          short = omega (arith, s.short, t.1, right.fits, right.whole, numbers-low row);
+          checks = s.checks ∙ rw (c.split, t.0, add-one count.rows);
+          counts = s.counts ∙ rw c.split (omega arith);
           sizes =
               s.sizes
-              ∙ rw (split h)
-              (omega (arith, length-append (entry_in_row k row) (laid k later), in-row-length k row, t.1));
+              ∙ rw c.split
+              (omega (arith, length-append (entry_in_row k now) (laid k (all_rows k rest)), in-row-length k now, t.1));
         }
 
-    pub list-done : length list ≤ at → ListChecked k (rows_of k list) (Right i size)
-    unfolding check_rows laid
-    list-done h =
-        let none : rows_of k (drop at list) ≡ [] = rows-done k.width (omega (arith, r.wide)) list at h in (
-          s.checks ∙ rw none,
-          sym (s.counts ∙ rw none (omega arith)),
-          sym (s.sizes ∙ rw none (omega arith)),
-        )
+  pub list-done : {before : List ℕ} {count : Count} → InList k list before [] count
+      → ListChecked k (all_rows k list) (Ok count)
+  unfolding check_rows laid rows_in
+  list-done s = (s.checks, omega (arith, s.counts), omega (arith, s.sizes))
 
 -- a check from a later position
 abbrev moved : ℕ → Checked → Checked
@@ -143,6 +158,11 @@ checks-from k p rows e = go (check_rows k 0 [] rows) (sym (check-at k p rows) �
     go sound h = refl
     go (broken_at q) h = broken-unsound h
 
+-- a lent list among the five
+pub lent-at : (lists : List (Bor (List ℕ))) (kind : ℕ) (d : Bor (List ℕ)) → kind < length lists
+    → get_or (lent lists) kind [] ≡ (get_or lists kind d).now
+lent-at lists kind d h = get_or-map (λ list. list.now) lists kind d [] h
+
 -- how many numbers a section has
 size-is : (k : Kind) (j : ℕ) (rows : Rows) (n more : ℕ) → n ≡ length rows → more ≡ length (laid k rows)
     → section_size j n more ≡ length (laid_section k j rows)
@@ -162,16 +182,6 @@ size-bounded j n more = go (left_out j n)
 
 -- the loop over the lists
 module _ (rows : ℕ → Rows) where
-  pub lists-open : InLists rows 0 0 0
-  lists-open =
-      record {
-        counted = omega arith;
-        few = omega arith;
-        short = omega arith;
-        checks = refl;
-        sizes = omega arith;
-      }
-
   module _ {kind before size : ℕ} (s : InLists rows kind before size) (h : kind < length kinds) where
     abbrev k : Kind
     k = kind_at kind
@@ -179,28 +189,28 @@ module _ (rows : ℕ → Rows) where
     front : drop kind kinds ≡ k ∷ drop (suc kind) kinds
     front = drop-cons kinds kind variables h
 
-    pub lists-bad : {p : ℕ} → ListChecked k (rows kind) (Bad p) → ListsChecked rows (Bad (before + p))
+    pub lists-bad : {p : ℕ} → ListChecked k (rows kind) (Err p) → ListsChecked rows (Err (before + p))
     unfolding check_lists
     lists-bad {p} e = s.checks ∙ rw (front, check-at k before (rows kind), e)
 
-    pub bad-bounded : {p : ℕ} → ListChecked k (rows kind) (Bad p) → before + p ≤ 10140
+    pub bad-bounded : {p : ℕ} → ListChecked k (rows kind) (Err p) → before + p ≤ 10140
     bad-bounded {p} e = omega (arith, s.few, bad-near k (rowed kind h) 0 (rows kind) p e)
 
-    pub right-bounded : {n more : ℕ} → ListChecked k (rows kind) (Right n more)
-        → (n ≤ 2028) × (more ≤ 50700)
-    right-bounded {n} {more} e =
+    pub right-bounded : {count : Count} → ListChecked k (rows kind) (Ok count)
+        → (count.rows ≤ 2028) × (count.numbers ≤ 50700)
+    right-bounded e =
         let few = few-right k (rowed kind h) 0 (rows kind) e.0 in
         (omega (arith, e.1), omega (arith, e.2, laid-short k (rowed kind h) 0 [] (rows kind) e.0))
 
-    pub lists-next : {n more size₁ : ℕ} → ListChecked k (rows kind) (Right n more) → size₁ ≡ section_size kind n more
-        → InLists rows (kind + 1) (before + n) (size + size₁)
+    pub lists-next : {count : Count} {more : ℕ} → ListChecked k (rows kind) (Ok count)
+        → more ≡ section_size kind count.rows count.numbers
+        → InLists rows (kind + 1) (before + count.rows) (size + more)
     unfolding check_lists laid_lists
-    lists-next {n} {more} {size₁} e told =
+    lists-next {count} e told =
         let b = right-bounded e in
         record {
-          counted = omega arith;
           few = omega (arith, s.few, b.0);
-          short = omega (arith, s.short, told, size-bounded kind n more, b.1);
+          short = omega (arith, s.short, told, size-bounded kind count.rows count.numbers, b.1);
           checks = s.checks ∙ rw (front, check-at k before (rows kind), e.0, add-one kind, e.1);
           sizes =
               s.sizes
@@ -209,16 +219,16 @@ module _ (rows : ℕ → Rows) where
                 arith,
                 length-append (laid_section k kind (rows kind)) (laid_lists (drop (suc kind) kinds) (suc kind) rows),
                 told,
-                size-is k kind (rows kind) n more e.1 e.2,
+                size-is k kind (rows kind) count.rows count.numbers e.1 e.2,
               ));
         }
 
-  pub lists-done : {kind before size : ℕ} → InLists rows kind before size → length kinds ≤ kind
-      → ListsChecked rows (Right before size)
+  pub lists-done : {kind before size : ℕ} → InLists rows kind before size → kind ≡ length kinds
+      → ListsChecked rows (Ok size)
   unfolding check_lists laid_lists
   lists-done {kind} {before} {size} s h =
-      let none : drop kind kinds ≡ [] = drop_of_length-le kinds h in (
+      let none : drop kind kinds ≡ [] = drop_of_length-le kinds (omega arith) in (
         s.checks ∙ rw none,
         sym (s.sizes ∙ rw none (omega arith)),
-        omega (arith, s.short, s.counted),
+        omega (arith, s.short),
       )

@@ -1,6 +1,6 @@
 -- The loops that lay the rows of a list, and the sections: a law for each step.
 -- Assumes nothing.
-use Prim.Native.Nat.{ℕ, zero, suc, ◌+◌, ◌*◌, ◌/◌, ◌≤◌, ◌<◌}
+use Prim.Native.Nat.{ℕ, zero, suc, ◌+◌, ◌*◌, ◌/◌, ◌%◌, ◌≤◌, ◌<◌}
 use mathlib.Core.Path.{◌≡◌, refl, ap, sym, ◌∙◌}
 use mathlib.Core.Bool.{true, false}
 use mathlib.Core.List.{List, [], ◌∷◌, ◌++◌}
@@ -8,34 +8,38 @@ use native.Mathlib.Omega.{arith}
 use native.Mathlib.Nat.{mul-div_cancel}
 use native.Mathlib.Numerals.{add-one}
 use borrow.Author.Tests.{le-leb}
-use lib.ListN.{length, get_or, take, drop, length-drop, length-take, length-append, drop_of_length-le, set}
-use lib.ListN.{take-append-drop}
-use lib.Seq.{sets, length-sets, get_or-take, drop-cons}
+use lib.ListN.{length, get_or, take, drop, length-drop, length-take, length-append, drop_of_length-le}
+use lib.ListN.{take-append-drop, get_or-eq_default}
+use lib.Seq.{sets, length-sets, drop-cons}
+use borrow.Rule.Slice.PartMut.{put_mid}
+use Rattle.std.specs.Int.{to_le_bytes}
+use Rattle.std.specs.List.{between}
+use Rattle.std.proofs.Common.{w16}
+use Rattle.std.proofs.lemmas.Slice.{between-put_mid}
+use Rattle.std.proofs.lemmas.List.Edits.{get_or-between}
 use Rattle.rules.specs.Numbers.{numbers_of, number_bytes}
 use Rattle.rules.specs.Book.{Kind, size_of, key_of, sound, kinds, kind_at, variables}
 use Rattle.rules.specs.Writing.{Rows, entry_in_row, check_rows, laid, left_out, laid_section, laid_lists, book_of}
+use Rattle.rules.specs.Writing.{rows_in}
 use Rattle.rules.proofs.Numbers.{numbers-count, numbers-low, numbers-high, numbers-drop, bytes-twice, bytes-append}
 use Rattle.rules.proofs.Numbers.{bytes-back}
 use Rattle.rules.proofs.RowReadings.{plain-entry}
 use Rattle.rules.proofs.Bounded.{by-le}
 use Rattle.rules.proofs.Stored.{sets-append}
 use Rattle.rules.proofs.RowLaws.{Rowed, in-row-length}
-use Rattle.rules.proofs.Written.{right-so, right-first, ListsRight, lists-right}
+use Rattle.rules.proofs.Written.{right-so, RightFirst, right-first, ListsRight, lists-right}
 use Rattle.rules.proofs.LentRows.{rows-next, rows-done}
 use Rattle.rows.specs.Paper.{entry_laid}
-use Rattle.writing.specs.Paper.{rows_of, Layable, Laying, LayingRows, SectionLayable, SectionLaid, Writable}
+use Rattle.writing.specs.Paper.{all_rows, Layable, Laying, LayingRows, SectionLayable, SectionLaid, Writable}
 use Rattle.writing.specs.Paper.{LayingLists}
-use Rattle.writing.proofs.Checking.{checks-from}
+use Rattle.writing.proofs.Checking.{Chunk, checks-from}
 
 -- as many numbers as before
 same_numbers : (a b : List ℕ) → length a ≡ length b → length (numbers_of a) ≡ length (numbers_of b)
 same_numbers a b e = numbers-count a ∙ ap (λ (n : ℕ). n / 2) e ∙ sym (numbers-count b)
 
--- numbers to lay, of which nothing is laid yet, some are, and all are
+-- numbers to lay, of which some are laid, and all are
 module _ {start : List ℕ} {at : ℕ} {all : List ℕ} where
-  pub laying-opens : Laying start at all start at all
-  laying-opens = record { stored = refl; long = refl; upto = refl }
-
   pub laying-on : {out : List ℕ} {to : ℕ} (xs rest : List ℕ) → Laying start at all out to (xs ++ rest)
       → Laying start at all (sets out (2 * to) (number_bytes xs)) (to + length xs) rest
   laying-on {out} {to} xs rest l =
@@ -55,107 +59,59 @@ module _ {start : List ℕ} {at : ℕ} {all : List ℕ} where
   laying-done l = (omega (arith, l.upto), l.stored)
 
 -- the rows of a list
-module _ (k : Kind) (r : Rowed k) (list : List ℕ) where
-  pub rows-open : {at : ℕ} {start : List ℕ} → Layable k (rows_of k list) at start
-      → LayingRows k list at start start 0 at
-  rows-open a =
-      record { within = omega arith; room = a.room; right = (0, [], a.right); rest = laying-opens }
+module _ {k : Kind} (r : Rowed k) (list : List ℕ) where
+  module _ {at : ℕ} {start out bytes row rest : List ℕ} {to : ℕ} (s : LayingRows k list at start out bytes to)
+      (c : Chunk k bytes row rest) where
+    abbrev now : List ℕ
+    now = numbers_of row
 
-  module _ {at : ℕ} {start out : List ℕ} {from to : ℕ} (s : LayingRows k list at start out from to)
-      (h : from < length list) where
-    abbrev ws : List ℕ
-    ws = numbers_of (drop from list)
+    first : RightFirst k s.right.0 s.right.1 now (all_rows k rest)
+    first = right-first k s.right.0 s.right.1 now (all_rows k rest) (rw c.split at s.right.2)
 
-    abbrev row : List ℕ
-    row = take k.width ws
-
-    abbrev later : Rows
-    later = rows_of k (drop (from + 2 * k.width) list)
-
-    split : rows_of k (drop from list) ≡ row ∷ later
-    split = rows-next k.width (omega (arith, r.wide)) list from h
-
-    record Here : Type 0 where
-      whole : k.width ≤ length row
-      fits : size_of k row ≤ k.width
-      there : from + 2 * k.width ≤ length list
-      room : to + size_of k row ≤ length (numbers_of out)
-      right : check_rows k (suc s.right.0) (key_of k row) later ≡ sound
-      rest : Laying start at (laid k (rows_of k list)) out to (entry_in_row k row ++ laid k later)
-
-    here : Here
+    ahead : Laying start at (laid k (all_rows k list)) out to (entry_in_row k now ++ laid k (all_rows k rest))
     unfolding laid
-    here =
-        let d = right-first k s.right.0 s.right.1 row later (rw split at s.right.2) in
-        let t = right-so k r s.right.1 row d.first in
-        let l : Laying start at (laid k (rows_of k list)) out to (entry_in_row k row ++ laid k later) =
-        rw split at s.rest in
-        record {
-          whole = t.whole;
-          fits = t.fits;
-          there =
-              omega (
-                arith,
-                t.whole,
-                length-take k.width ws,
-                numbers-low (drop from list),
-                length-drop from list,
-              );
-          room =
-              omega (
-                arith,
-                l.upto,
-                length-append (entry_in_row k row) (laid k later),
-                in-row-length k row,
-                s.room,
-                same_numbers out start l.long,
-              );
-          right = d.later;
-          rest = l;
-        }
+    ahead = rw c.split at s.laying
 
-    pub row-there : from + 2 * k.width ≤ length list
-    row-there = here.there
-
-    -- the row's size, by itself and with what follows it
-    pub row-size : size_of k ws ≡ size_of k row
-    row-size = sym (ap k.size (get_or-take k.width ws k.key 0 r.wide))
-
-    pub row-near : to + size_of k row ≤ length (numbers_of out)
-    row-near = here.room
-
-    pub row-laid : entry_laid k row to out ≡ sets out (2 * to) (number_bytes (entry_in_row k row))
-    row-laid =
-        rw (
-          le-leb k.width (length row) here.whole,
-          le-leb (size_of k row) k.width here.fits,
-          le-leb (to + size_of k row) (length (numbers_of out)) here.room,
+    pub row-near : to + size_of k now ≤ length (numbers_of out)
+    row-near =
+        omega (
+          arith,
+          ahead.upto,
+          length-append (entry_in_row k now) (laid k (all_rows k rest)),
+          in-row-length k now,
+          s.room,
+          same_numbers out start ahead.long,
         )
 
-    pub rows-go-on : {after : List ℕ} {size : ℕ} → after ≡ entry_laid k row to out → size ≡ size_of k ws
-        → LayingRows k list at start after (from + 2 * k.width) (to + size)
+    row-laid : entry_laid k (take k.width now) to out ≡ sets out (2 * to) (number_bytes (entry_in_row k now))
+    row-laid =
+        let t = right-so k r s.right.1 now first.first in
+        rw (
+          c.own,
+          le-leb k.width (length now) t.whole,
+          le-leb (size_of k now) k.width t.fits,
+          le-leb (to + size_of k now) (length (numbers_of out)) row-near,
+        )
+
+    pub rows-go-on : {after : List ℕ} {size : ℕ} → after ≡ entry_laid k (take k.width now) to out → size ≡ size_of k now
+        → LayingRows k list at start after rest (to + size)
     rows-go-on {after} {size} e q =
-        let f = here in
-        let z : to + size ≡ to + length (entry_in_row k row) = omega (arith, row-size, in-row-length k row) in
+        let z : to + size ≡ to + length (entry_in_row k now) = omega (arith, in-row-length k now) in
         record {
-          within = f.there;
           room = s.room;
-          right = (suc s.right.0, key_of k row, f.right);
-          rest = rw (e ∙ row-laid, z) (laying-on (entry_in_row k row) (laid k later) f.rest);
+          right = (suc s.right.0, key_of k now, first.later);
+          laying = rw (e ∙ row-laid, z) (laying-on (entry_in_row k now) (laid k (all_rows k rest)) ahead);
         }
 
-  pub rows-end : {at : ℕ} {start out : List ℕ} {from to : ℕ} → LayingRows k list at start out from to
-      → length list ≤ from
-      → (to ≡ at + length (laid k (rows_of k list)))
-      × (out ≡ sets start (2 * at) (number_bytes (laid k (rows_of k list))))
-  unfolding laid
-  rows-end {from = from} s h =
-      let none : rows_of k (drop from list) ≡ [] = rows-done k.width (omega (arith, r.wide)) list from h in
-      laying-done (rw none at s.rest)
+  pub rows-end : {at : ℕ} {start out : List ℕ} {to : ℕ} → LayingRows k list at start out [] to
+      → (to ≡ at + length (laid k (all_rows k list)))
+      × (out ≡ sets start (2 * at) (number_bytes (laid k (all_rows k list))))
+  unfolding laid rows_in
+  rows-end s = laying-done s.laying
 
 -- rows that are right are whole: so many bytes
-whole-rows : (k : Kind) → Rowed k → (n : ℕ) (list : List ℕ) (p : ℕ) (before : List ℕ) → length (rows_of k list) ≡ n
-    → check_rows k p before (rows_of k list) ≡ sound → length list ≡ n * (2 * k.width)
+whole-rows : (k : Kind) → Rowed k → (n : ℕ) (list : List ℕ) (p : ℕ) (before : List ℕ) → length (all_rows k list) ≡ n
+    → check_rows k p before (all_rows k list) ≡ sound → length list ≡ n * (2 * k.width)
 whole-rows k r zero list p before e h =
     by-le (length list) 0 (λ l. omega arith)
     (λ l.
@@ -168,9 +124,9 @@ whole-rows k r (suc n) list p before e h =
     let split = rows-next k.width (omega (arith, r.wide)) list 0 l in
     let row = take k.width (numbers_of list) in
     let later = drop (0 + 2 * k.width) list in
-    let d = right-first k p before row (rows_of k later) (rw split at h) in
+    let d = right-first k p before row (all_rows k later) (rw split at h) in
     let t = right-so k r before row d.first in
-    let many : length (rows_of k later) ≡ n = omega (arith, ap (length {A = List ℕ}) split) in
+    let many : length (all_rows k later) ≡ n = omega (arith, ap (length {A = List ℕ}) split) in
     let ih = whole-rows k r n later (suc p) (key_of k row) many d.later in
     omega (
       arith,
@@ -181,18 +137,18 @@ whole-rows k r (suc n) list p before e h =
       numbers-low list,
     ))
 
-pub rows-count : (k : Kind) → Rowed k → (list : List ℕ) (width : ℕ) → width ≡ k.width
-    → check_rows k 0 [] (rows_of k list) ≡ sound → length list / (2 * width) ≡ length (rows_of k list)
-rows-count k r list width e h =
-    let n = length (rows_of k list) in
+pub rows-count : {k : Kind} → Rowed k → (list : List ℕ) (width : ℕ) → width ≡ k.width
+    → check_rows k 0 [] (all_rows k list) ≡ sound → length list / (2 * width) ≡ length (all_rows k list)
+rows-count {k} r list width e h =
+    let n = length (all_rows k list) in
     let some : 0 < 2 * k.width = omega (arith, r.wide) in
     ap (λ (w : ℕ). length list / (2 * w)) e
     ∙ ap (λ (x : ℕ). x / (2 * k.width)) (whole-rows k r n list 0 [] refl h) ∙ mul-div_cancel n some
 
 -- rows that stand as their entries do are laid as they are lent
-module _ (k : Kind) (r : Rowed k) (long : (m : ℕ) → k.size m ≡ k.width) (plain : (m i : ℕ) → k.in_row m i ≡ i) where
-  plain-laid : (n : ℕ) (list : List ℕ) (p : ℕ) (before : List ℕ) → length (rows_of k list) ≡ n
-      → check_rows k p before (rows_of k list) ≡ sound → laid k (rows_of k list) ≡ numbers_of list
+module _ {k : Kind} (r : Rowed k) (long : (m : ℕ) → k.size m ≡ k.width) (plain : (m i : ℕ) → k.in_row m i ≡ i) where
+  plain-laid : (n : ℕ) (list : List ℕ) (p : ℕ) (before : List ℕ) → length (all_rows k list) ≡ n
+      → check_rows k p before (all_rows k list) ≡ sound → laid k (all_rows k list) ≡ numbers_of list
   unfolding laid numbers_of
   plain-laid zero list p before e h =
       let none : list ≡ [] = drop_of_length-le list {i = 0} (omega (arith, whole-rows k r 0 list p before e h)) in
@@ -202,44 +158,50 @@ module _ (k : Kind) (r : Rowed k) (long : (m : ℕ) → k.size m ≡ k.width) (p
       let split = rows-next k.width (omega (arith, r.wide)) list 0 some in
       let row = take k.width (numbers_of list) in
       let later = drop (0 + 2 * k.width) list in
-      let d = right-first k p before row (rows_of k later) (rw split at h) in
+      let d = right-first k p before row (all_rows k later) (rw split at h) in
       let t = right-so k r before row d.first in
       let whole : length row ≡ k.width = omega (arith, t.whole, length-take k.width (numbers_of list)) in
-      let many : length (rows_of k later) ≡ n = omega (arith, ap (length {A = List ℕ}) split) in
+      let many : length (all_rows k later) ≡ n = omega (arith, ap (length {A = List ℕ}) split) in
       let z : 0 + 2 * k.width ≡ 2 * k.width = omega arith in
       let rest : numbers_of later ≡ drop k.width (numbers_of list) =
       ap (λ (i : ℕ). numbers_of (drop i list)) z ∙ numbers-drop list k.width in
       rw split
-      (ap (λ (l : List ℕ). l ++ laid k (rows_of k later)) (plain-entry k r long plain row whole)
+      (ap (λ (l : List ℕ). l ++ laid k (all_rows k later)) (plain-entry k r long plain row whole)
       ∙ ap (λ (l : List ℕ). row ++ l) (plain-laid n later (suc p) (key_of k row) many d.later ∙ rest)
       ∙ take-append-drop k.width (numbers_of list))
 
-  -- byte for byte
-  pub plain-bytes : (list : List ℕ) → ((i : ℕ) → get_or list i 0 < 256) → check_rows k 0 [] (rows_of k list) ≡ sound
-      → (number_bytes (laid k (rows_of k list)) ≡ list) × (length list ≡ 2 * length (laid k (rows_of k list)))
-  plain-bytes list small h =
-      let n = length (rows_of k list) in
-      let same = plain-laid n list 0 [] refl h in
-      let many : length list ≡ n * (2 * k.width) = whole-rows k r n list 0 [] refl h in
-      let even : length list ≡ 2 * length (numbers_of list) =
-      omega (arith, many, numbers-low list, numbers-high list) in
-      (ap number_bytes same ∙ bytes-back list even small, even ∙ ap (λ (l : List ℕ). 2 * length l) (sym same))
+  module _ (list : List ℕ) (h : check_rows k 0 [] (all_rows k list) ≡ sound) where
+    abbrev many : ℕ
+    many = length (all_rows k list)
 
--- bytes copied one by one from a place on
-module _ (bytes start : List ℕ) (at : ℕ) where
-  pub copy-first : sets start (at + 0) (drop 0 bytes) ≡ sets start at bytes
-  copy-first = let z : at + 0 ≡ at = omega arith in ap (λ (i : ℕ). sets start i bytes) z
+    even : length list ≡ 2 * length (numbers_of list)
+    even = omega (arith, whole-rows k r many list 0 [] refl h, numbers-low list, numbers-high list)
 
-  pub copy-next : (out : List ℕ) (i : ℕ) → i < length bytes
-      → sets out (at + i) (drop i bytes) ≡ sets start at bytes
-      → sets (set out (at + i) (get_or bytes i 0)) (at + (i + 1)) (drop (i + 1) bytes) ≡ sets start at bytes
-  copy-next out i h e =
-      let z : at + (i + 1) ≡ suc (at + i) = omega arith in
-      rw (z, add-one i) (sym (ap (sets out (at + i)) (drop-cons bytes i 0 h)) ∙ e)
+    pub plain-long : length list ≡ 2 * length (laid k (all_rows k list))
+    plain-long = even ∙ ap (λ (l : List ℕ). 2 * length l) (sym (plain-laid many list 0 [] refl h))
 
-  pub copy-done : (out : List ℕ) (i : ℕ) → length bytes ≤ i → sets out (at + i) (drop i bytes) ≡ sets start at bytes
-      → out ≡ sets start at bytes
-  copy-done out i h e = sym (ap (sets out (at + i)) (drop_of_length-le bytes h)) ∙ e
+    -- byte for byte
+    pub plain-bytes : ((i : ℕ) → get_or list i 0 < 256)
+        → (number_bytes (laid k (all_rows k list)) ≡ list) × (length list ≡ 2 * length (laid k (all_rows k list)))
+    plain-bytes small =
+        (ap number_bytes (plain-laid many list 0 [] refl h) ∙ bytes-back list even small, plain-long)
+
+-- bytes that were put are bytes
+pub put-small : (a k : ℕ) (xs ys : List ℕ) → length ys ≡ k → a + k ≤ length xs
+    → ((i : ℕ) → get_or (put_mid a k xs ys) i 0 < 256) → (i : ℕ) → get_or ys i 0 < 256
+put-small a k xs ys l h each i =
+    by-le (length ys) i (λ p. omega (arith, get_or-eq_default ys 0 p))
+    (λ p.
+    let put : List ℕ = put_mid a k xs ys in
+    let same : between a (a + k) put ≡ ys = between-put_mid a k xs ys (a + k) (omega arith) (omega arith) in
+    let there : get_or (between a (a + k) put) i 0 ≡ get_or put (a + i) 0 =
+    get_or-between put a (a + k) i 0 (omega arith) in
+    omega (arith, ap (λ (b : List ℕ). get_or b i 0) same, there, each (a + i)))
+
+-- the two bytes of a count
+pub count-bytes : (n : ℕ) → n < 65536 → to_le_bytes w16 n ≡ number_bytes (n ∷ [])
+unfolding number_bytes
+count-bytes n h = let e : n / 256 % 256 ≡ n / 256 = omega arith in rw e
 
 -- stores leave the room as it was
 pub still-layable : {k : Kind} {rows : Rows} {at : ℕ} {before after : List ℕ} → Layable k rows at before → (i : ℕ)
@@ -280,9 +242,6 @@ module _ (k : Kind) (j : ℕ) (rows : Rows) (at : ℕ) (start : List ℕ) where
 
 -- the sections
 module _ (rows : ℕ → Rows) (start : List ℕ) (w : Writable rows start) where
-  pub sections-open : LayingLists rows start 0 0 start
-  sections-open = record { counted = omega arith; right = (0, w.right); rest = laying-opens }
-
   module _ {kind at : ℕ} {out : List ℕ} (s : LayingLists rows start kind at out) (h : kind < length kinds) where
     abbrev k : Kind
     k = kind_at kind
@@ -322,7 +281,6 @@ module _ (rows : ℕ → Rows) (start : List ℕ) (w : Writable rows start) wher
         → LayingLists rows start (kind + 1) r after
     section-next {after} {r} l =
         record {
-          counted = omega arith;
           right = (s.right.0 + length (rows kind), rw add-one right.later);
           rest = rw (l.stored, l.ends, add-one kind) (laying-on this following laying);
         }

@@ -1,4 +1,5 @@
 mod Checking
 mod Laying
+mod Mapped
 pub mod OneResult
 mod Telling

@@ -3,24 +3,14 @@
 use Prim.Native.Nat.{ℕ}
 use mathlib.Core.Path.{◌≡◌, refl, sym, ◌∙◌}
 use mathlib.Core.List.{List}
-use Rattle.rules.specs.Refusals.{Answer, refused, given}
-use Rattle.rules.proofs.Answers.{read-back}
-use Rattle.writing.specs.Paper.{written_paper, BookLeft}
-use Rattle.writing.specs.declared.Written.{Written}
-use Rattle.writing.specs.declared.Written.TheVariants as written
+use Rattle.std.proofs.Common.{Result}
+use Rattle.rules.specs.Refusals.{Answer}
+use Rattle.refusals.specs.Paper.{itself}
+use Rattle.refusals.specs.declared.Refusal.{Refusal}
+use Rattle.refusals.proofs.OneResult.{answer-one}
+use Rattle.writing.specs.Paper.{BookLeft}
 
-written_back : Answer ℕ → Written
-written_back (refused n p) = written.Refused n p
-written_back (given n) = written.Bytes n
-
-pub written-one : (a b : Written) → written_paper a ≡ written_paper b → a ≡ b
-unfolding written_back
-written-one = read-back written_paper written_back is
-  where
-    is : (a : Written) → written_back (written_paper a) ≡ a
-    is (written.Refused n p) = refl
-    is (written.Bytes n) = refl
-
-pub book-left-one : {book : Answer (List ℕ)} {r s : Written} {before after other : List ℕ}
+pub book-left-one : {book : Answer (List ℕ)} {r s : Result ℕ Refusal} {before after other : List ℕ}
     → BookLeft book r before after → BookLeft book s before other → (r ≡ s) × (after ≡ other)
-book-left-one {r = r} {s = s} a b = (written-one r s (a.told ∙ sym b.told), a.left ∙ sym b.left)
+book-left-one {r = r} {s = s} a b =
+    (answer-one itself itself (λ n. refl) r s (a.told ∙ sym b.told), a.left ∙ sym b.left)

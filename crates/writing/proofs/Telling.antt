@@ -7,50 +7,55 @@ use mathlib.Core.List.{List, ◌++◌}
 use native.Mathlib.Omega.{arith}
 use borrow.Author.Tests.{lt-ltb, le-ltb}
 use lib.Dec.{ltb}
+use Rattle.std.proofs.Common.{Ok, Err, inl, inr, ◌⊎◌}
 use lib.ListN.{length, drop}
 use lib.Seq.{sets, sets-eq}
 use Rattle.rules.specs.Refusals.{refused, given}
-use Rattle.rules.specs.Book.{kinds, broken_at, largest_book}
-use Rattle.rules.specs.Writing.{Rows, check_lists, laid_lists, book_of, write_book}
+use Rattle.rules.specs.Book.{kinds, largest_book}
+use Rattle.rules.specs.Writing.{Rows, laid_lists, book_of, write_book}
 use Rattle.rules.proofs.Numbers.{bytes-twice}
-use Rattle.writing.specs.Paper.{ListsChecked, Writable, BookLeft}
-use Rattle.writing.specs.declared.ListCheck.TheVariants.{Right}
-use Rattle.writing.specs.declared.Written.TheVariants.{Refused, Bytes}
+use Rattle.writing.specs.Paper.{ListsChecked, BookLeft}
+use Rattle.refusals.specs.Paper.{number_of, at_start}
+use Rattle.refusals.specs.declared.Reason.TheVariants as reasons
+use Rattle.refusals.specs.declared.Refusal.{Refusal}
 
 module _ (rows : ℕ → Rows) (out : List ℕ) where
   -- a refusal leaves the buffer as it was
-  refuses : (n p : ℕ) → write_book rows (length out) ≡ refused n p
-      → BookLeft (write_book rows (length out)) (Refused n p) out out
-  refuses n p e = rw e (record { told = refl; left = refl })
+  refuses : (r : Refusal) → write_book rows (length out) ≡ refused (number_of r.reason) r.place
+      → BookLeft (write_book rows (length out)) (Err r) out out
+  refuses r e = rw e (record { told = refl; left = refl })
 
-  pub tell-bad : (p : ℕ) → check_lists kinds 0 0 rows ≡ broken_at p
-      → BookLeft (write_book rows (length out)) (Refused 12 p) out out
+  pub tell-bad : (p : ℕ) → ListsChecked rows (Err p)
+      → BookLeft (write_book rows (length out)) (Err (record { reason = reasons.BrokenBook; place = p })) out out
   unfolding write_book
-  tell-bad p e = refuses 12 p (rw e)
+  tell-bad p e = refuses (record { reason = reasons.BrokenBook; place = p }) (rw e)
 
-  module _ (n size : ℕ) (right : ListsChecked rows (Right n size)) where
+  module _ (size : ℕ) (right : ListsChecked rows (Ok size)) where
     long : length (book_of rows) ≡ 2 * size
     long = omega (arith, bytes-twice (laid_lists kinds 0 rows), right.1)
 
-    pub tell-short : length out < 2 * size → BookLeft (write_book rows (length out)) (Refused 11 0) out out
-    unfolding write_book
-    tell-short h = refuses 11 0 (rw (right.0, lt-ltb (length out) (length (book_of rows)) (omega (arith, long))))
-
-    pub tell-long : 32768 < 2 * size → BookLeft (write_book rows (length out)) (Refused 11 0) out out
+    -- a book over the largest is refused by 11, however long the buffer is ..
+    pub tell-long : 32768 < 2 * size
+        → BookLeft (write_book rows (length out)) (Err (at_start reasons.BufferShort)) out out
     unfolding write_book
     tell-long h =
-        refuses 11 0
+        refuses (at_start reasons.BufferShort)
         (rw (
           right.0,
           lt-ltb largest_book (length (book_of rows)) (omega (arith, long)),
           or-true (ltb (length out) (length (book_of rows))),
         ))
 
-    module _ (room : 2 * size ≤ length out) (fits : 2 * size ≤ 32768) where
-      pub writable : Writable rows out
-      writable =
-          record { right = right.0; room = omega (arith, right.1); fits = omega (arith, right.1) }
+    -- .. and so is one for which the buffer is short
+    pub tell-short : (length out < 2 * size) ⊎ ((2 * size ≤ length out) × (32768 < 2 * size))
+        → BookLeft (write_book rows (length out)) (Err (at_start reasons.BufferShort)) out out
+    unfolding write_book
+    tell-short (inl h) =
+        refuses (at_start reasons.BufferShort)
+        (rw (right.0, lt-ltb (length out) (length (book_of rows)) (omega (arith, long))))
+    tell-short (inr h) = tell-long h.1
 
+    module _ (room : 2 * size ≤ length out) (fits : 2 * size ≤ 32768) where
       written : write_book rows (length out) ≡ given (book_of rows)
       unfolding write_book
       written =
@@ -61,7 +66,7 @@ module _ (rows : ℕ → Rows) (out : List ℕ) where
           )
 
       pub tell-written : {after : List ℕ} → after ≡ sets out 0 (book_of rows)
-          → BookLeft (write_book rows (length out)) (Bytes (2 * size)) out after
+          → BookLeft (write_book rows (length out)) (Ok (2 * size)) out after
       tell-written e =
           let b = book_of rows in
           let z : 0 + length b ≡ length b = omega arith in

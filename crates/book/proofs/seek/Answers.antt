@@ -2,16 +2,15 @@
 -- Assumes nothing.
 use mathlib.Core.Path.{sym, ◌∙◌}
 use native.Mathlib.Omega.{arith}
-use Rattle.rules.proofs.Numbers.{numbers-low, numbers-part}
+use Rattle.rules.proofs.Numbers.{numbers-part}
 use Rattle.book.proofs.Loops.{key-some}
-use Rattle.book.proofs.Laid.{seek-opens, seek-past, seek-here, seek-next, seek-done}
+use Rattle.book.proofs.Laid.{seek-past, seek-here, seek-next, seek-done}
 use Rattle.book.proofs.seek.Goals as goal
 
 pub returns-then-end-at : goal.returns-then-end-at
 returns-then-end-at c =
     let a = c.args in
-    seek-past c.loop-i.invariant (key-some a.kind a.key.severity a.key.letter a.key.column)
-    (omega arith)
+    seek-past c.loop-i.invariant (key-some a.kind a.key.severity a.key.letter a.key.column) (omega arith)
 
 pub returns-then-is_under : goal.returns-then-is_under
 returns-then-is_under c =
@@ -19,36 +18,12 @@ returns-then-is_under c =
     let under = rw (numbers-part a.part.now c.loop-i.at) at c.is_under.ensures in
     seek-here c.loop-i.invariant (omega arith) (sym under ∙ c.if-is_under.true)
 
-pub slice_bounds-size_at-count : goal.slice_bounds-size_at-count
-slice_bounds-size_at-count c =
-    omega (arith, numbers-low c.args.part.now)
-
-pub slice_bounds-size_at-start : goal.slice_bounds-size_at-start
-slice_bounds-size_at-start c =
-    omega (arith, numbers-low c.args.part.now)
-
-pub overflow_add-at : goal.overflow_add-at
-overflow_add-at c =
-    omega (arith, numbers-low c.args.part.now)
-
 pub loop-i-preserved : goal.loop-i-preserved
 loop-i-preserved c =
     let a = c.args in
     let under = rw (numbers-part a.part.now c.loop-i.at) at c.is_under.ensures in
     let size = rw (numbers-part a.part.now c.loop-i.at) at c.size_at-at.ensures.0 in
     seek-next c.loop-i.invariant (omega arith) (sym under ∙ c.if-is_under.false) size
-
-pub loop-i-init : goal.loop-i-init
-loop-i-init c = seek-opens c.number-entries.ensures.0
-
-pub overflow_mul-from : goal.overflow_mul-from
-overflow_mul-from c = omega (arith, numbers-low c.args.part.now)
-
-pub slice_bounds-is_under-count : goal.slice_bounds-is_under-count
-slice_bounds-is_under-count c = omega (arith, numbers-low c.args.part.now)
-
-pub slice_bounds-is_under-start : goal.slice_bounds-is_under-start
-slice_bounds-is_under-start c = omega (arith, numbers-low c.args.part.now)
 
 pub returns : goal.returns
 returns c = seek-done c.loop-i.invariant (omega arith)

@@ -1,13 +1,25 @@
 -- `choosing::curtailed_plan` meets its contract.
 -- Assumes nothing.
-use mathlib.Core.Path.{sym, ap, ◌∙◌}
-use Rattle.rules.proofs.Demands.Curtailed.{curtailed-as-single}
-use Rattle.plans.specs.Paper.{asked_paper, beside, itself, zero_plan}
+use mathlib.Core.Path.{◌∙◌}
+use Rattle.rules.specs.Book.{check_book}
+use Rattle.rules.specs.Entries.{curtailed_plan}
+use Rattle.rules.proofs.EntryLaws.{broken-first, sound-first}
+use Rattle.plans.specs.Paper.{plan_paper}
+use Rattle.choosing.proofs.Supplies.{handed-on}
 use Rattle.choosing.proofs.curtailed_plan.Goals as goal
 
+pub returns-in_err-check_book : goal.returns-in_err-check_book
+unfolding curtailed_plan
+returns-in_err-check_book c =
+    handed-on plan_paper _ _ c.from_residual.ensures.1
+    ∙ broken-first (check_book c.args.book.now) _ _ _ c.in_err-check_book.ensures
+
+pub returns-in_err-table_plan : goal.returns-in_err-table_plan
+unfolding curtailed_plan
+returns-in_err-table_plan c =
+    handed-on plan_paper _ _ c.from_residual-in_err-table_plan.ensures.1 ∙ c.in_err-table_plan.ensures
+    ∙ sound-first (check_book c.args.book.now) _ c.in_ok-check_book.ensures
+
 pub returns : goal.returns
-returns c =
-    let a = c.args in
-    c.single_plan.ensures
-    ∙ ap (beside zero_plan itself)
-    (sym (curtailed-as-single (asked_paper a.lot) a.book.now c.if-lot-eq-REDUCED.false))
+unfolding curtailed_plan
+returns c = c.in_ok-table_plan.ensures ∙ sound-first (check_book c.args.book.now) _ c.in_ok-check_book.ensures

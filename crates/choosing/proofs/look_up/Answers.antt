@@ -1,31 +1,22 @@
 -- `choosing::look_up` meets its contract.
 -- Assumes nothing.
-use mathlib.Core.Path.{sym, ap, ◌∙◌}
-use Rattle.plans.specs.Paper.{asked_paper, letter_paper}
-use Rattle.book.specs.Paper.{found_paper}
-use Rattle.choosing.proofs.Supplies.{unasked, looked-up}
+use mathlib.Core.Path.{sym, ◌∙◌}
+use Rattle.refusals.specs.Paper.{itself}
+use Rattle.plans.specs.Paper.{asked_paper}
+use Rattle.choosing.specs.Paper.{lettered_by}
+use Rattle.choosing.proofs.Supplies.{handed-on, looked-up, near}
 use Rattle.choosing.proofs.look_up.Goals as goal
 
-pub returns-in-Refused : goal.returns-in-Refused
-returns-in-Refused c =
+pub returns-in_err-plan-clause-answer : goal.returns-in_err-plan-clause-answer
+returns-in_err-plan-clause-answer c =
     let a = c.args in
-    unasked a.kind (asked_paper a.lot) a.book.now _ _ _ _
-    (sym c.asked_letter.ensures ∙ ap letter_paper
-    c.in-Refused.is)
-    c.first_refusal-first.ensures
+    handed-on (lettered_by itself) _ _ c.from_residual-in_err-plan.ensures.1
+    ∙ looked-up a.kind (asked_paper a.lot) a.book.now _ _ (sym c.in-Ok.ensures) c.in_err-plan.ensures
 
-pub returns-in-Refused-find_place : goal.returns-in-Refused-find_place
-returns-in-Refused-find_place c =
+pub returns-clause-answer : goal.returns-clause-answer
+returns-clause-answer c =
     let a = c.args in
-    looked-up a.kind (asked_paper a.lot) a.book.now _ _
-    (sym c.asked_letter.ensures ∙ ap letter_paper
-    c.in-Given.is)
-    (sym (ap found_paper c.in-Refused-find_place.is) ∙ c.find_place.ensures)
+    looked-up a.kind (asked_paper a.lot) a.book.now _ _ (sym c.in-Ok.ensures) c.in_ok-plan.ensures
 
-pub returns-in-At : goal.returns-in-At
-returns-in-At c =
-    let a = c.args in
-    looked-up a.kind (asked_paper a.lot) a.book.now _ _
-    (sym c.asked_letter.ensures ∙ ap letter_paper
-    c.in-Given.is)
-    (sym (ap found_paper c.in-At.is) ∙ c.find_place.ensures)
+pub returns-clause-within : goal.returns-clause-within
+returns-clause-within c = near _ _ _ _ _ c.args.book.now (sym c.in_ok-plan.ensures)

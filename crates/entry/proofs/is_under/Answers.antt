@@ -54,14 +54,13 @@ pub returns-then-number-key : goal.returns-then-number-key
 returns-then-number-key c =
     let a = c.args in
     let ws = numbers_of a.e.now in
-    let other = ne_eqb (get_or ws 0 0) a.key.severity (λ h. c.if-number-key.true (c.number.ensures.0
-    ∙ h)) in
-    rw other at (by-three a.kind a.key ws c.if-kind-eq-REDUCED.false)
+    let same = eq-eqb (get_or ws 0 0) a.key.severity (sym c.number.ensures ∙ c.if-number-key.true) in
+    c.pair_is-then-number-key.ensures ∙ rw same at (by-three a.kind a.key ws c.if-kind-eq-REDUCED.false)
 
-pub returns : goal.returns
-returns c =
+pub returns-else-number-key : goal.returns-else-number-key
+returns-else-number-key c =
     let a = c.args in
     let ws = numbers_of a.e.now in
-    let same = eq-eqb (get_or ws 0 0) a.key.severity (sym c.number.ensures.0
-    ∙ c.if-number-key.false) in
-    c.pair_is-2.ensures ∙ rw same at (by-three a.kind a.key ws c.if-kind-eq-REDUCED.false)
+    let other = ne_eqb (get_or ws 0 0) a.key.severity (λ h. c.if-number-key.false (c.number.ensures ∙ h)) in
+    ne_eqb c.number.result a.key.severity c.if-number-key.false
+    ∙ rw other at (by-three a.kind a.key ws c.if-kind-eq-REDUCED.false)

@@ -13,18 +13,18 @@ returns-then-fits c =
     let k = kind_at c.args.kind in
     let e = numbers_of c.args.e.now in
     let i = c.args.i in
-    let x = c.number16-x.ensures in
+    let x = c.number-x.ensures in
     let w : within (get_or k.ranges i anything) (get_or e i 0) ≡ true =
     ap (within (get_or k.ranges i anything)) (sym x) ∙ sym c.fits.ensures
     ∙ c.if-fits.true in
     c.keeps_rule.ensures ∙ ap (k.rule (take i e)) x ∙ sym (right-by k e i w)
 
-pub returns : goal.returns
-returns c =
+pub returns-else-fits : goal.returns-else-fits
+returns-else-fits c =
     let k = kind_at c.args.kind in
     let e = numbers_of c.args.e.now in
     let i = c.args.i in
-    let x = c.number16-x.ensures in
+    let x = c.number-x.ensures in
     let w : within (get_or k.ranges i anything) (get_or e i 0) ≡ false =
     ap (within (get_or k.ranges i anything)) (sym x) ∙ sym c.fits.ensures ∙ c.if-fits.false in
-    sym (wrong-by k e i w)
+    c.if-fits.false ∙ sym (wrong-by k e i w)

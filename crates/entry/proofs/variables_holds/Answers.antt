@@ -8,7 +8,7 @@ use Rattle.entry.proofs.variables_holds.Goals as goal
 
 -- the walk over n and K ends where all four tests pass
 ends-where : (a b c d : Bool)
-    → (a && b && (c && d))
+    → (a && b) && (c && d)
     ≡ is_end (cond ((a && b) && true) (cond ((c && d) && true) (ends 5) (broken 4)) (broken 3))
 ends-where false b c d = refl
 ends-where true false c d = refl
@@ -20,4 +20,4 @@ pub returns : goal.returns
 unfolding could_hold numbers_from right
 returns c =
     let p = c.args.plan in
-    ends-where (leb 2 p.n) (leb p.n 50) (leb 1 p.k) (leb p.k 4000)
+    rw (c.fits.ensures, c.fits-2.ensures) (ends-where (leb 2 p.n) (leb p.n 50) (leb 1 p.k) (leb p.k 4000))

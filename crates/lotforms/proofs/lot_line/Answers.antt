@@ -1,40 +1,46 @@
 -- `lotforms::lot_line` meets its contract. Assumes nothing.
+use mathlib.Core.Path.{ap, ◌∙◌}
+use Rattle.lotforms.specs.Reading.{line_paper}
 use Rattle.lotforms.proofs.Reading.{first-other, then-known, too-many, as-many}
 use Rattle.lotforms.proofs.lot_line.Goals as goal
 
-pub returns-in_default : goal.returns-in_default
-returns-in_default c = first-other _ 2 3 _ c.number.ensures c.in_default.is
+pub returns-in_err-size : goal.returns-in_err-size
+returns-in_err-size c =
+    ap line_paper c.from_residual.ensures ∙ first-other _ 0 3 _ c.number_at.ensures c.in_err-size.was
 
-pub returns-in_default-number : goal.returns-in_default-number
-returns-in_default-number c =
-    then-known _ 2 3 _ c.number.ensures c.in-Number.is
-    (first-other _ _ 2 _ c.number-2.ensures c.in_default-number.is)
+pub returns-in_err-level : goal.returns-in_err-level
+returns-in_err-level c =
+    ap line_paper c.from_residual-in_err-level.ensures
+    ∙ then-known _ 0 3 _ c.number_at.ensures c.in_ok-size.was
+    (first-other _ _ 2 _ c.number_at-2.ensures c.in_err-level.was)
 
-pub returns-in_default-number-2 : goal.returns-in_default-number-2
-returns-in_default-number-2 c =
-    then-known _ 2 3 _ c.number.ensures c.in-Number.is
-    (then-known _ _ 2 _ c.number-2.ensures c.in-Number-number.is
-    (first-other _ _ 1 _ c.number-3.ensures c.in_default-number-2.is))
+pub returns-in_err-column : goal.returns-in_err-column
+returns-in_err-column c =
+    ap line_paper c.from_residual-in_err-column.ensures
+    ∙ then-known _ 0 3 _ c.number_at.ensures c.in_ok-size.was
+    (then-known _ _ 2 _ c.number_at-2.ensures c.in_ok-level.was
+    (first-other _ _ 1 _ c.number_at-3.ensures c.in_err-column.was))
 
-pub returns-in_default-number-3 : goal.returns-in_default-number-3
-returns-in_default-number-3 c =
-    then-known _ 2 3 _ c.number.ensures c.in-Number.is
-    (then-known _ _ 2 _ c.number-2.ensures c.in-Number-number.is
-    (then-known _ _ 1 _ c.number-3.ensures c.in-Number-number-2.is
-    (first-other _ _ 0 _ c.number-4.ensures c.in_default-number-3.is)))
+pub returns-in_err-total : goal.returns-in_err-total
+returns-in_err-total c =
+    ap line_paper c.from_residual-in_err-total.ensures
+    ∙ then-known _ 0 3 _ c.number_at.ensures c.in_ok-size.was
+    (then-known _ _ 2 _ c.number_at-2.ensures c.in_ok-level.was
+    (then-known _ _ 1 _ c.number_at-3.ensures c.in_ok-column.was
+    (first-other _ _ 0 _ c.number_at-4.ensures c.in_err-total.was)))
 
-pub returns-then-end-line : goal.returns-then-end-line
-returns-then-end-line c =
-    then-known _ 2 3 _ c.number.ensures c.in-Number.is
-    (then-known _ _ 2 _ c.number-2.ensures c.in-Number-number.is
-    (then-known _ _ 1 _ c.number-3.ensures c.in-Number-number-2.is
-    (then-known _ _ 0 _ c.number-4.ensures c.in-Number-number-3.is
-    (too-many _ _ _ c.if-end-line.true))))
+pub returns-then-end-fields : goal.returns-then-end-fields
+returns-then-end-fields c =
+    then-known _ 0 3 _ c.number_at.ensures c.in_ok-size.was
+    (then-known _ _ 2 _ c.number_at-2.ensures c.in_ok-level.was
+    (then-known _ _ 1 _ c.number_at-3.ensures c.in_ok-column.was
+    (then-known _ _ 0 _ c.number_at-4.ensures c.in_ok-total.was
+    (too-many _ _ _ c.if-end-fields.true))))
 
 pub returns : goal.returns
 returns c =
-    then-known _ 2 3 _ c.number.ensures c.in-Number.is
-    (then-known _ _ 2 _ c.number-2.ensures c.in-Number-number.is
-    (then-known _ _ 1 _ c.number-3.ensures c.in-Number-number-2.is
-    (then-known _ _ 0 _ c.number-4.ensures c.in-Number-number-3.is
-    (as-many _ _ _ c.if-end-line.false))))
+    then-known _ 0 3 _ c.number_at.ensures c.in_ok-size.was
+    (then-known _ _ 2 _ c.number_at-2.ensures c.in_ok-level.was
+    (then-known _ _ 1 _ c.number_at-3.ensures c.in_ok-column.was
+    (then-known _ _ 0 _ c.number_at-4.ensures c.in_ok-total.was
+    (as-many _ _ _ c.if-end-fields.false))))

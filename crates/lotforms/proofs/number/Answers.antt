@@ -1,26 +1,24 @@
 -- `lotforms::number` meets its contract. Assumes nothing.
-use borrow.Author.Rules.{rules}
-use Rattle.lotforms.proofs.Reading.{reads-first, reads-space, reads-end, reads-low, reads-high}
-use Rattle.lotforms.proofs.Reading.{reads-over, reads-more}
+use mathlib.Core.Logic.{inl, inr}
+use mathlib.Core.Path.{◌∙◌, sym}
+use Rattle.lotforms.proofs.Reading.{empty-field, zero-first, not-zero-led}
+use native.Mathlib.Omega.{arith}
 use Rattle.lotforms.proofs.number.Goals as goal
 
-pub loop-i-init : goal.loop-i-init
-loop-i-init c = reads-first _ _
+pub returns-in_err-first : goal.returns-in_err-first
+returns-in_err-first c =
+    c.from_residual.ensures ∙ empty-field _ (let none = c.in_err-first.ensures.item in omega (arith, none.3))
 
-pub close_field-requires : goal.close_field-requires
-close_field-requires c = search (rules, reads-space)
+pub returns-then-field-gt1 : goal.returns-then-field-gt1
+returns-then-field-gt1 c =
+    zero-first _ c.if-field-gt1.true (sym (c.in_ok-first.ensures.item.3.1 0) ∙ c.if-first-eq48.true)
 
-pub returns-then-b-lt48 : goal.returns-then-b-lt48
-returns-then-b-lt48 c = search (rules, reads-low)
-
-pub returns-then-b-gt57 : goal.returns-then-b-gt57
-returns-then-b-gt57 c = search (rules, reads-high)
-
-pub returns-then-value-gt-LARGEST : goal.returns-then-value-gt-LARGEST
-returns-then-value-gt-LARGEST c = search (rules, reads-over)
-
-pub loop-i-preserved : goal.loop-i-preserved
-loop-i-preserved c = search (rules, reads-more)
-
-pub close_field-requires-2 : goal.close_field-requires-2
-close_field-requires-2 c = search (rules, reads-end)
+pub returns : goal.returns
+returns c =
+    let first = c.in_ok-first.ensures.item.3 in
+    c.value.ensures
+    ∙ not-zero-led _ first.0
+    (λ more zero. elim c.else-first-eq48.either [
+      | inl short ↦ omega (arith, short.1)
+      | inr other ↦ other (first.1 0 ∙ zero)
+    ])

@@ -1,30 +1,21 @@
 -- `lotstream::open_log` meets its contract.
 use native.Mathlib.Omega.{arith}
-use mathlib.Core.Path.{refl, ap, ◌∙◌}
+use mathlib.Core.Path.{◌∙◌}
 use Rattle.rules.specs.History.{ours}
-use Rattle.rules.specs.Feeding.{starting}
-use Rattle.lotstream.proofs.Putting.{within-line, part-line, put-line}
+use Rattle.lotstream.proofs.Putting.{put-line}
 use Rattle.lotstream.proofs.Onwards.{all-same}
 use Rattle.lotstream.proofs.open_log.Goals as goal
 
-pub slice_bounds-line-end : goal.slice_bounds-line-end
-slice_bounds-line-end c = within-line c.header-written.ensures refl
-
-pub put-filled-requires : goal.put-filled-requires
-put-filled-requires c =
-    let shown = c.header-written.ensures in
-    omega (arith, shown.fits, part-line shown refl, c.requires)
-
 pub returns : goal.returns
 returns c =
-    let shown = c.header-written.ensures in
-    let pre = c.requires in
-    let put = put-line shown refl (omega (arith, pre)) c.put-filled.ensures in
+    let put = put-line (omega (arith, c.as_slice.ensures.fits, c.requires)) c.put.ensures in
     record {
-      whole = all-same ours _ _ (c.start.ensures.held ∙ ap starting c.ours.ensures) put.0;
-      long = refl;
-      taken = refl;
-      fits = omega (arith, put.1, c.put-filled.auto.output);
-      over = refl;
-      failed = refl;
+      whole =
+          rw c.fresh.ensures.taken
+          (all-same ours _ _ c.fresh.ensures.state (put.0 ∙ (c.as_slice.ensures.value ∙ c.header.ensures)));
+      long = c.fresh.ensures.long;
+      taken = c.fresh.ensures.taken;
+      fits = omega (arith, put.1, c.put.auto.output);
+      over = c.fresh.ensures.over;
+      failed = c.fresh.ensures.failed;
     }

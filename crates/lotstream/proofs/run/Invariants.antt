@@ -6,8 +6,5 @@ use Rattle.lotstream.proofs.run.Given as goal
 
 abbrev pub invariant-loop-turns : goal.invariant-loop-turns
 invariant-loop-turns g l =
-    Running l.turns (scene l.turn l.input l.output) × (length l.output ≡ length l.initial.output)
+    Running l._turns (scene l.turn l.input l.output) × (length l.output ≡ length l.initial.output)
     × (length l.input ≡ length l.initial.input)
-
-abbrev pub decreases-loop-turns : goal.decreases-loop-turns
-decreases-loop-turns g l = l.turns

@@ -1,20 +1,23 @@
 -- `rows::copy_number` meets its contract.
 -- Assumes nothing.
-use Prim.Native.Nat.{◌*◌, ◌<◌}
+use Prim.Native.Nat.{ℕ, ◌+◌, ◌*◌, ◌-◌, ◌<◌}
+use mathlib.Core.Path.{◌≡◌, ap, ◌∙◌}
 use native.Mathlib.Omega.{arith}
-use lib.ListN.{length, get_or, length-set}
+use lib.ListN.{length, take, drop}
+use lib.Seq.{sets}
 use Rattle.rules.specs.Numbers.{numbers_of}
-use Rattle.rules.proofs.Numbers.{number-at, numbers-count}
-use Rattle.rows.proofs.Stores.{copied}
+use Rattle.rules.proofs.Numbers.{numbers-count}
+use Rattle.rows.proofs.Stores.{put-sets, two-bytes}
 use Rattle.rows.proofs.copy_number.Goals as goal
-
-pub bounds-to-at-2 : goal.bounds-to-at-2
-bounds-to-at-2 c = simp length-set (omega arith)
 
 pub returns : goal.returns
 returns c =
     let from = c.args.from.now in
     let i = c.args.i in
+    let to = c.args.to.now in
     let there : i < length (numbers_of from) = omega (arith, numbers-count from) in
-    let byte : get_or from (2 * i) 0 < 256 = omega (arith, c.shared_slice_known-1.given (2 * i)) in
-    copied c.args.to.now c.args.at _ _ _ byte (number-at from i there)
+    let two : 2 * i + 2 - 2 * i ≡ 2 = omega arith in
+    put-sets (2 * c.args.at) _ to _ (omega (arith, c.copy_from_slice.ensures.len)) (omega arith)
+    ∙ ap (sets to (2 * c.args.at))
+    (c.copy_from_slice.ensures.after ∙ ap (λ (n : ℕ). take n (drop (2 * i) from)) two
+    ∙ two-bytes from i there (omega (arith, c.type_inv.from (2 * i))))

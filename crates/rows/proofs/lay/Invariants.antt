@@ -1,6 +1,5 @@
 -- `rows::lay` meets its contract.
 -- Assumes nothing.
-use Prim.Native.Nat.{◌-◌}
 use Rattle.rules.specs.Numbers.{numbers_of}
 use Rattle.rules.specs.Book.{kind_at}
 use Rattle.rows.specs.Paper.{Laying}
@@ -8,6 +7,3 @@ use Rattle.rows.proofs.lay.Given as goal
 
 abbrev pub invariant-loop-i : goal.invariant-loop-i
 invariant-loop-i l = Laying (kind_at l.kind) (numbers_of l.row) l.at l.initial.out l.out l.i
-
-abbrev pub decreases-loop-i : goal.decreases-loop-i
-decreases-loop-i l = l.size - l.i

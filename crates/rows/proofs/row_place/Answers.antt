@@ -1,13 +1,8 @@
 -- `rows::row_place` meets its contract.
 -- Assumes nothing.
-use mathlib.Core.Path.{sym}
 use borrow.Author.Tests.{lt-ltb, le-ltb, eq-eqb, ne_eqb}
 use Rattle.rules.specs.Book.{staged_in_row}
-use Rattle.rows.proofs.AnyRow.{plain-place}
 use Rattle.rows.proofs.row_place.Goals as goal
-
-pub returns-then-kind-ne-STAGED : goal.returns-then-kind-ne-STAGED
-returns-then-kind-ne-STAGED c = sym (plain-place _ _ _ c.if-kind-ne-STAGED.true)
 
 pub returns-then-i-start : goal.returns-then-i-start
 unfolding staged_in_row

@@ -1,6 +1,6 @@
 -- `rows::show` meets its contract.
 -- Assumes nothing.
-use Prim.Native.Nat.{◌*◌, ◌-◌}
+use Prim.Native.Nat.{◌*◌}
 use lib.ListN.{drop}
 use Rattle.rules.specs.Numbers.{numbers_of}
 use Rattle.rules.specs.Book.{kind_at}
@@ -10,6 +10,3 @@ use Rattle.rows.proofs.show.Given as goal
 abbrev pub invariant-loop-i : goal.invariant-loop-i
 invariant-loop-i l =
     Showing (kind_at l.kind) (numbers_of l.e) (drop (2 * (kind_at l.kind).width) l.initial.row) l.row l.i
-
-abbrev pub decreases-loop-i : goal.decreases-loop-i
-decreases-loop-i l = l.size - l.i

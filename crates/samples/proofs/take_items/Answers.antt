@@ -1,32 +1,18 @@
 -- `samples::take_items` meets its contract: one law for each exit of the loop.
 -- Assumes nothing.
-use mathlib.Core.Path.{sym, ◌∙◌}
+use mathlib.Core.Path.{refl, sym, ap}
 use native.Mathlib.Omega.{arith}
-use Rattle.rules.proofs.SampleSteps.{taking-start, taking-done, taking-missing, taking-over, taking-item}
+use Rattle.std.proofs.lemmas.Result.{err_from_is_err_and}
+use Rattle.rules.proofs.SampleSteps.{taking-missing, taking-over}
+use Rattle.samples.specs.Paper.{taken_answer}
+use Rattle.samples.proofs.Reading.{item-refused}
 use Rattle.samples.proofs.take_items.Goals as goal
 
-pub loop-i-init : goal.loop-i-init
-loop-i-init c = (omega arith, omega arith, omega arith, taking-start _ _ _ _ _)
-
-pub returns-then-count-i : goal.returns-then-count-i
-returns-then-count-i c =
-    (sym (taking-missing c.loop-i.invariant.3 (omega arith) (omega (arith, c.count-count.ensures))), omega arith)
-
-pub returns-then-is_illegal : goal.returns-then-is_illegal
-returns-then-is_illegal c = (
-  sym (taking-over c.loop-i.invariant.3 (omega arith) (omega (arith, c.count-count.ensures))
-      c.number-item.ensures.0 (sym c.is_illegal.ensures ∙ c.if-is_illegal.true)),
-  omega arith,
-)
-
-pub loop-i-preserved : goal.loop-i-preserved
-loop-i-preserved c = (
-  omega arith,
-  omega arith,
-  omega arith,
-  taking-item c.loop-i.invariant.3 (omega arith) (omega (arith, c.count-count.ensures))
-      c.number-item.ensures.0 (sym c.is_illegal.ensures ∙ c.if-is_illegal.false),
-)
-
-pub returns : goal.returns
-returns c = (sym (taking-done c.loop-i.invariant.3 (omega arith)), omega arith)
+pub returns-in_err-item-clause-taken : goal.returns-in_err-item-clause-taken
+returns-in_err-item-clause-taken c =
+    let at = c.loop-i.invariant.taking in
+    let p = err_from_is_err_and c.from_residual.result c.from_residual.ensures.1 in
+    rw (p.1, p.2)
+    (sym
+    (item-refused _ _ _ _ _ _ c.in_err-item.ensures (λ h. ap taken_answer (taking-missing at (omega arith) h))
+    (λ h e. ap taken_answer (taking-over at (omega arith) h refl e))))

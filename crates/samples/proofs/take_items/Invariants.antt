@@ -6,8 +6,8 @@ use Rattle.rules.proofs.SampleSteps.{TakingAt}
 use Rattle.samples.proofs.take_items.Given as goal
 
 abbrev pub invariant-loop-i : goal.invariant-loop-i
-invariant-loop-i l = (l.from ≤ l.i) × (l.i ≤ l.end) × (l.t ≤ l.total + 65535 * (l.i - l.from))
-    × TakingAt l.column l.k l.total l.from (numbers_of l.sample) l.i l.t
-
-abbrev pub decreases-loop-i : goal.decreases-loop-i
-decreases-loop-i l = l.end - l.i
+invariant-loop-i l =
+    record {
+      few : l.t ≤ l.total + 65535 * (l.i - l.from);
+      taking : TakingAt l.column l.k l.total l.from (numbers_of l.sample) l.i l.t;
+    }

@@ -1,45 +1,31 @@
 -- `severity::walk` meets its contract. Assumes nothing.
-use mathlib.Core.Path.{ap, ◌∙◌}
-use lib.ListN.{length}
-use borrow.Author.Rules.{rules}
-use Rattle.rules.proofs.Answers.{met}
-use Rattle.rules.proofs.Histories.{from-first, from-given}
-use Rattle.severity.specs.Paper.{stepped_paper}
-use Rattle.severity.proofs.Loop.{walked-first, walked-none, walked-bad, walked-more, walked-past}
-use Rattle.severity.proofs.Loop.{walked-whole}
+use Rattle.std.proofs.Common.{rules, refl, sym, ◌∙◌}
+use lib.Seq.{set_out}
+use Rattle.severity.proofs.Loop.{walking-first, walking-on, walked-none, walked-bad, walked-whole}
 use Rattle.severity.proofs.walk.Goals as goal
 use Rattle.severity.proofs.walk.Goals.{then-i-out, else-i-out}
 
-pub returns-in-Refused : goal.returns-in-Refused
-returns-in-Refused c =
-    let q = met stepped_paper c.in-Refused.is c.step_byte-answer.ensures in
-    search (rules, walked-bad)
+pub returns-then-not-in_range : goal.returns-then-not-in_range
+returns-then-not-in_range c =
+    rw c.from.ensures (walked-none _ _ _ _ _ c.in_range.ensures c.if-not-in_range.true)
+
+pub returns-in-Err : goal.returns-in-Err
+returns-in-Err c =
+    let m = rw (c.event_of.ensures, c.from-in-loop-i.ensures) at c.in-Err.ensures in
+    walked-bad _ _ _ _ _ c.in_range.ensures c.if-not-in_range.false _ _ _ c.loop-i.invariant _ _ c.loop-i-test.true m
 
 pub loop-i-preserved : goal.loop-i-preserved
 loop-i-preserved c =
-    let q = met stepped_paper c.in-Given.is c.step_byte-answer.ensures in
-    let inv = c.loop-i.invariant in
-    let a = from-given _ _ _ _ _ _ inv.reached q in
-    elim c.if-i-out.branch [
-      | then-i-out w ↦ record {
-        within = search rules;
-        reached = a;
-        left = w.out-is ∙ walked-more _ _ _ _ _ _ inv.left a;
-        room = search (rules, ap length w.out-is);
-      }
-      | else-i-out w ↦ record {
-        within = search rules;
-        reached = a;
-        left = w.out-is ∙ walked-past _ _ _ _ _ _ inv.left a w.if-i-out.false;
-        room = search (rules, ap length w.out-is);
-      }
-    ]
-
-pub returns-then-not-in_range : goal.returns-then-not-in_range
-returns-then-not-in_range c = search (rules, walked-none)
+    let m = rw (c.event_of.ensures, c.from-in-loop-i.ensures) at c.in-Ok.ensures in
+    walking-on _ _ _ _ _ _ _ _ _ c.loop-i.invariant m
+    (elim c.if-i-out.branch [
+      | then-i-out w ↦ w.out-is
+      | else-i-out w ↦ w.out-is ∙ sym (set_out _ _ _ w.if-i-out.false)
+    ])
 
 pub loop-i-init : goal.loop-i-init
-loop-i-init c = search (rules, from-first, walked-first)
+loop-i-init c = walking-first _ _ _ _
 
 pub returns : goal.returns
-returns c = search (rules, walked-whole)
+returns c =
+    walked-whole _ _ _ _ _ c.in_range.ensures c.if-not-in_range.false _ _ _ c.loop-i.invariant _ refl (search rules)

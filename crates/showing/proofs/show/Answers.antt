@@ -24,11 +24,8 @@ returns c =
     ∙ row-shown c.requires c.entry_place-place.result
     (place-is c.requires c.entry_place-place.result c.entry_place-place.ensures)
 
-pub overflow_cast-nth : goal.overflow_cast-nth
-overflow_cast-nth c = omega (arith, c.requires.there, c.requires.few)
-
-pub overflow_mul-from : goal.overflow_mul-from
-overflow_mul-from c = omega (arith, near (goal.at.overflow_mul-from c).After-entry_place-place)
+pub overflow_mul-place : goal.overflow_mul-place
+overflow_mul-place c = omega (arith, near (goal.at.overflow_mul-place c).After-entry_place-place)
 
 pub slice_bounds-show_entry-count : goal.slice_bounds-show_entry-count
 slice_bounds-show_entry-count c = omega (arith, near (goal.at.slice_bounds-show_entry-count c).After-entry_place-place)

@@ -1,15 +1,8 @@
 -- `writing::lay_lists` meets its contract.
 -- Assumes nothing.
-use Prim.Native.Nat.{◌-◌}
-use lib.ListN.{length}
-use Rattle.rules.specs.Book.{kinds}
 use Rattle.rules.specs.Writing.{lent_rows}
-use Rattle.writing.specs.Paper.{lists, LayingLists}
+use Rattle.writing.specs.Paper.{lent, LayingLists}
 use Rattle.writing.proofs.lay_lists.Given as goal
 
 abbrev pub invariant-loop-kind : goal.invariant-loop-kind
-invariant-loop-kind l =
-    LayingLists (lent_rows (lists l.reduced l.staged l.sequential l.variables l.sigma)) l.initial.out l.kind l.at l.out
-
-abbrev pub decreases-loop-kind : goal.decreases-loop-kind
-decreases-loop-kind l = length kinds - l.kind
+invariant-loop-kind l = LayingLists (lent_rows (lent l.lists)) l.initial.out l.kind l.at l.out

@@ -3,48 +3,42 @@
 use Prim.Native.Nat.{ℕ}
 use mathlib.Core.Path.{◌≡◌, subst}
 use native.Mathlib.Omega.{arith}
+use Rattle.std.proofs.Common.{Result, rules}
+use Rattle.std.proofs.lemmas.Result.{err_from_is_err_and}
 use Rattle.rules.specs.Writing.{Rows, lent_rows}
-use Rattle.writing.specs.declared.ListCheck.{ListCheck}
-use Rattle.writing.specs.Paper.{lists, ListsChecked}
-use Rattle.writing.proofs.Telling.{tell-bad, tell-short, tell-long, writable, tell-written}
+use Rattle.refusals.specs.declared.Reason.TheVariants.{BrokenBook}
+use Rattle.refusals.specs.declared.Refusal.{Refusal}
+use Rattle.writing.specs.Paper.{lent, ListsChecked}
+use Rattle.writing.proofs.Mapped.{ok-mapped, err-mapped}
+use Rattle.writing.proofs.Telling.{tell-bad, tell-short, tell-written}
 use Rattle.writing.proofs.write_book.Goals as goal
-use Rattle.writing.proofs.write_book.Goals.{After-check_lists}
+use Rattle.writing.proofs.write_book.Goals.{After-check_lists, In_ok-numbers}
 
 -- what the check of the lists found
 module _ (d : After-check_lists) where
-  abbrev lent : ℕ → Rows
-  lent =
-      let a = d.args in
-      lent_rows (lists a.reduced.now a.staged.now a.sequential.now a.variables.now a.sigma.now)
+  abbrev rows : ℕ → Rows
+  rows = lent_rows (lent d.args.lists)
 
-  checked : {x : ListCheck} → d.check_lists.result ≡ x → ListsChecked lent x
-  checked e = subst (λ (r : ListCheck). ListsChecked lent r) e d.check_lists.ensures
+  checked : {x : Result ℕ ℕ} → d.check_lists.result ≡ x → ListsChecked rows x
+  checked e = subst (λ (r : Result ℕ ℕ). ListsChecked rows r) e d.check_lists.ensures
 
-pub overflow_mul-size : goal.overflow_mul-size
-overflow_mul-size c = omega (arith, (checked (goal.at.overflow_mul-size c).After-check_lists c.in-Right.is).2)
+pub returns-in_err-numbers : goal.returns-in_err-numbers
+returns-in_err-numbers c =
+    let d = (goal.at.returns-in_err-numbers c).After-check_lists in
+    let bad : ℕ → Refusal = λ p. record { reason = BrokenBook; place = p } in
+    let p =
+    err-mapped _ c.check_lists.result _ c.map_err.ensures.cases bad (λ e d k. search rules) c.in_err-numbers.was in
+    let k = err_from_is_err_and c.from_residual.result c.from_residual.ensures.1 in
+    rw (k.1, k.2, p.2) (tell-bad (rows d) _ p.0 (checked d p.1))
 
 pub returns-then-out-size : goal.returns-then-out-size
 returns-then-out-size c =
     let d = (goal.at.returns-then-out-size c).After-check_lists in
-    tell-short (lent d) _ c.in-Right.field-0 _ (checked d c.in-Right.is) c.if-out-size.true
+    let right = checked d (ok-mapped _ c.check_lists.result _ c.map_err.ensures.cases c.in_ok-numbers.was) in
+    rw c.into.ensures (tell-short (rows d) _ _ right c.then-out-size.either)
 
-pub returns-then-size-gt-LARGEST_BOOK : goal.returns-then-size-gt-LARGEST_BOOK
-returns-then-size-gt-LARGEST_BOOK c =
-    let d = (goal.at.returns-then-size-gt-LARGEST_BOOK c).After-check_lists in
-    tell-long (lent d) _ c.in-Right.field-0 _ (checked d c.in-Right.is) c.if-size-gt-LARGEST_BOOK.true
-
-pub lay_lists-requires : goal.lay_lists-requires
-lay_lists-requires c =
-    let d = (goal.at.lay_lists-requires c).After-check_lists in
-    writable (lent d) _ c.in-Right.field-0 _ (checked d c.in-Right.is) (omega arith) (omega arith)
-
-pub returns-in-Bad : goal.returns-in-Bad
-returns-in-Bad c =
-    let d = (goal.at.returns-in-Bad c).After-check_lists in
-    tell-bad (lent d) _ _ (checked d c.in-Bad.is)
-
-pub returns-else-size-gt-LARGEST_BOOK : goal.returns-else-size-gt-LARGEST_BOOK
-returns-else-size-gt-LARGEST_BOOK c =
-    let d = (goal.at.returns-else-size-gt-LARGEST_BOOK c).After-check_lists in
-    tell-written (lent d) _ c.in-Right.field-0 _ (checked d c.in-Right.is) (omega arith)
-    (omega arith) c.lay_lists.ensures
+pub returns : goal.returns
+returns c =
+    let d = (goal.at.returns c).After-check_lists in
+    let right = checked d (ok-mapped _ c.check_lists.result _ c.map_err.ensures.cases c.in_ok-numbers.was) in
+    tell-written (rows d) _ _ right (omega arith) (omega arith) c.lay_lists.ensures

@@ -7,7 +7,6 @@ use borrow.Author.Tests.{ltb-true, leb-true, lt-ltb, le-leb}
 use lib.Dec.{leb, ltb}
 use Rattle.rules.specs.Book.{at_fits}
 use Rattle.rules.proofs.Bools.{same-truth}
-use Rattle.rules.proofs.Steps.{square-fits}
 use Rattle.entry.proofs.keeping.at_fits.Goals as goal
 
 -- a floor and a ceiling of hundred-thousandths, without division
@@ -21,12 +20,6 @@ module _ (gn h x : ℕ) where
   below-ceiling =
       same-truth _ _ (λ e. lt-ltb x _ (omega (arith, ltb-true (100000 * x) (gn + 100 * h) e)))
       (λ e. lt-ltb (100000 * x) (gn + 100 * h) (omega (arith, ltb-true x ((gn + 100 * h + 99999) / 100000) e)))
-
-pub overflow_mul-gn : goal.overflow_mul-gn
-overflow_mul-gn c = omega (arith, square-fits c.args.g c.args.nt (omega arith) (omega arith))
-
-pub overflow_add-result-3 : goal.overflow_add-result-3
-overflow_add-result-3 c = omega (arith, square-fits c.args.g c.args.nt (omega arith) (omega arith))
 
 pub returns : goal.returns
 unfolding at_fits

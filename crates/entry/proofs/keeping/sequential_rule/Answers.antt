@@ -11,10 +11,10 @@ returns-then-i-eq7 c =
     let q = c.if-i-eq7.true in
     c.at_fits.ensures
     ∙ (rw (
-      c.number16-ha.ensures,
-      c.number16-hr.ensures,
-      c.number16-g.ensures,
-      c.number16-nt.ensures,
+      c.number-ha.ensures,
+      c.number-hr.ensures,
+      c.number-g.ensures,
+      c.number-nt.ensures,
     ))
     ∙ sym (sequential-at e c.args.i c.args.x c.requires q)
 

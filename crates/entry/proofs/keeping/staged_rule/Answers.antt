@@ -15,8 +15,8 @@ returns c =
     let e = numbers_of c.args.e.now in
     c.staged_number.ensures
     ∙ (rw (
-      c.number16-m.ensures,
-      c.number16-two.ensures,
-      c.number16-one.ensures,
+      c.number-m.ensures,
+      c.number-two.ensures,
+      c.number-one.ensures,
     ))
     ∙ sym (staged-at e c.args.i c.args.x c.requires (omega arith))

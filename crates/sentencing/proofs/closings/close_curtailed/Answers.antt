@@ -1,9 +1,28 @@
--- `sentencing::closings::close_curtailed` meets its contract. Assumes nothing.
-use Rattle.sentencing.proofs.Verdicts.{curtailed-closed, curtailed-out}
+-- `sentencing::closings::close_curtailed` meets its contract.
+-- Assumes nothing.
+use mathlib.Core.Path.{◌∙◌}
+use Rattle.rules.specs.Entries.{asked_on, judge_curtailed, single_event, close_curtailed}
+use Rattle.plans.specs.Paper.{plan_paper}
+use Rattle.severity.specs.Paper.{record_paper}
+use Rattle.supply.specs.Paper.{supply_paper}
+use Rattle.closing.specs.Paper.{offered_paper, closed_by}
+use Rattle.choosing.proofs.Supplies.{handed-on}
+use Rattle.sentencing.proofs.Records.{out-of-range, closed, curtailed-checked}
 use Rattle.sentencing.proofs.closings.close_curtailed.Goals as goal
 
-pub returns-then-in_range : goal.returns-then-in_range
-returns-then-in_range c = search curtailed-closed
+pub returns-in_err-on_record : goal.returns-in_err-on_record
+unfolding close_curtailed
+returns-in_err-on_record c =
+    handed-on (closed_by plan_paper) _ _ c.from_residual.ensures.1
+    ∙ out-of-range (supply_paper c.args.old) c.args.book.now _ _ _ c.in_err-on_record.ensures
 
 pub returns : goal.returns
-returns c = search curtailed-out
+unfolding close_curtailed
+returns c =
+    let a = c.args in
+    let r = record_paper a.old.switching in
+    let o = offered_paper a.lot in
+    c.take_single.ensures
+    ∙ closed (supply_paper a.old) a.book.now (λ q. judge_curtailed q a.book.now a.sample.now) (single_event r o)
+    (λ q. curtailed-checked q a.book.now a.sample.now) (asked_on r o) c.in_ok-on_record.ensures _ c.asked_on.ensures _
+    c.judge_curtailed-judged.ensures

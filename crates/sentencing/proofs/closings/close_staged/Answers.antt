@@ -1,9 +1,42 @@
--- `sentencing::closings::close_staged` meets its contract. Assumes nothing.
-use Rattle.sentencing.proofs.Verdicts.{staged-closed, staged-out}
+-- `sentencing::closings::close_staged` meets its contract.
+-- Assumes nothing.
+use mathlib.Core.Path.{◌∙◌}
+use Rattle.rules.specs.Entries.{asked_on, judge_staged, staged_event, close_staged}
+use Rattle.entry.specs.Paper.{staged_paper}
+use Rattle.severity.specs.Paper.{event_paper, record_paper}
+use Rattle.supply.specs.Paper.{supply_paper}
+use Rattle.closing.specs.Paper.{offered_paper, closed_by}
+use Rattle.closing.proofs.Closing.{entered-by}
+use Rattle.choosing.proofs.Supplies.{handed-on}
+use Rattle.sentencing.proofs.Records.{out-of-range, closed, staged-checked}
 use Rattle.sentencing.proofs.closings.close_staged.Goals as goal
 
-pub returns-then-in_range : goal.returns-then-in_range
-returns-then-in_range c = search staged-closed
+pub returns-in_err-on_record : goal.returns-in_err-on_record
+unfolding close_staged
+returns-in_err-on_record c =
+    handed-on (closed_by staged_paper) _ _ c.from_residual.ensures.1
+    ∙ out-of-range (supply_paper c.args.old) c.args.book.now _ _ _ c.in_err-on_record.ensures
+
+pub returns-in_err-judged : goal.returns-in_err-judged
+unfolding close_staged
+returns-in_err-judged c =
+    let a = c.args in
+    let r = record_paper a.old.switching in
+    let o = offered_paper a.lot in
+    handed-on (closed_by staged_paper) _ _ c.from_residual-in_err-judged.ensures.1
+    ∙ closed (supply_paper a.old) a.book.now (λ q. judge_staged q a.book.now a.sample.now) (staged_event r o)
+    (λ q. staged-checked q a.book.now a.sample.now) (asked_on r o) c.in_ok-on_record.ensures _ c.asked_on.ensures _
+    c.in_err-judged.ensures
 
 pub returns : goal.returns
-returns c = search staged-out
+unfolding close_staged
+returns c =
+    let a = c.args in
+    let r = record_paper a.old.switching in
+    let o = offered_paper a.lot in
+    let e = entered-by staged_paper (supply_paper a.old) (event_paper c.staged_event-event.result) c.in_ok-judged.judged
+    c.enter.result c.enter.ensures in
+    rw c.staged_event-event.ensures at e
+    ∙ closed (supply_paper a.old) a.book.now (λ q. judge_staged q a.book.now a.sample.now) (staged_event r o)
+    (λ q. staged-checked q a.book.now a.sample.now) (asked_on r o) c.in_ok-on_record.ensures _ c.asked_on.ensures _
+    c.in_ok-judged.ensures

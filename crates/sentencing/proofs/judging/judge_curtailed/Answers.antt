@@ -1,36 +1,24 @@
 -- `sentencing::judging::judge_curtailed` meets its contract.
 -- Assumes nothing.
-use mathlib.Core.Path.{ap, ◌∙◌}
-use Rattle.rules.specs.Curtailed.{judge_until_lost}
-use Rattle.rules.specs.Entries.{curtailed_plan, judge_curtailed}
-use Rattle.plans.specs.Paper.{asked_paper, plan_paper, beside, zero_plan}
-use Rattle.closing.specs.Paper.{plan_judged}
-use Rattle.sentencing.proofs.Verdicts.{single-refused, single-given, judged-refused, judged-given}
-use Rattle.sentencing.proofs.Verdicts.{curtailed-sample}
+use mathlib.Core.Path.{◌∙◌}
+use Rattle.plans.specs.Paper.{asked_paper, plan_paper, judged_by}
+use Rattle.choosing.proofs.Supplies.{handed-on}
+use Rattle.sentencing.proofs.Verdicts.{curtailed-unplanned, curtailed-judged}
 use Rattle.sentencing.proofs.judging.judge_curtailed.Goals as goal
 
-pub returns-in-Refused : goal.returns-in-Refused
-unfolding judge_curtailed
-returns-in-Refused c =
+pub returns-in_err-plan : goal.returns-in_err-plan
+returns-in_err-plan c =
     let a = c.args in
-    c.single_judged.ensures
-    ∙ ap (beside zero_plan plan_judged)
-    (judged-refused (curtailed_plan (asked_paper a.lot) a.book.now)
-    (λ p. judge_until_lost a.lot.column p a.sample.now) _ _
-    (single-refused zero_plan _ _ _ c.curtailed_plan-planned.ensures _ _
-    c.in-Refused.is))
+    handed-on (judged_by plan_paper) _ _ c.from_residual.ensures.1
+    ∙ curtailed-unplanned (asked_paper a.lot) a.book.now a.sample.now _ _ c.in_err-plan.ensures
 
-pub returns-in-Given : goal.returns-in-Given
-unfolding judge_curtailed
-returns-in-Given c =
+pub returns-in_err-verdict : goal.returns-in_err-verdict
+returns-in_err-verdict c =
     let a = c.args in
-    let plan = plan_paper c.curtailed_plan-planned.result.plan in
-    let g = single-given zero_plan (curtailed_plan (asked_paper a.lot) a.book.now) _ plan
-    c.curtailed_plan-planned.ensures c.in-Given.is in
-    c.single_judged-in-Given.ensures
-    ∙ ap (beside zero_plan plan_judged)
-    (judged-given (curtailed_plan (asked_paper a.lot) a.book.now)
-    (λ p. judge_until_lost a.lot.column p a.sample.now) plan
-    c.curtailed_sample.result g
-    (c.curtailed_sample.ensures
-    ∙ curtailed-sample (asked_paper a.lot) a.book.now a.sample.now plan g))
+    handed-on (judged_by plan_paper) _ _ c.from_residual-in_err-verdict.ensures.1
+    ∙ curtailed-judged (asked_paper a.lot) a.book.now a.sample.now _ _ c.in_ok-plan.ensures c.in_err-verdict.ensures
+
+pub returns : goal.returns
+returns c =
+    let a = c.args in
+    curtailed-judged (asked_paper a.lot) a.book.now a.sample.now _ _ c.in_ok-plan.ensures c.in_ok-verdict.ensures

@@ -1,35 +1,24 @@
 -- `sentencing::judging::judge_single` meets its contract.
 -- Assumes nothing.
-use mathlib.Core.Path.{ap, ◌∙◌}
-use Rattle.rules.specs.Single.{judge_items}
-use Rattle.rules.specs.Entries.{single_plan, judge_single}
-use Rattle.plans.specs.Paper.{asked_paper, plan_paper, beside, zero_plan}
-use Rattle.closing.specs.Paper.{plan_judged}
-use Rattle.sentencing.proofs.Verdicts.{single-refused, single-given, judged-refused, judged-given, single-sample}
+use mathlib.Core.Path.{◌∙◌}
+use Rattle.plans.specs.Paper.{asked_paper, plan_paper, judged_by}
+use Rattle.choosing.proofs.Supplies.{handed-on}
+use Rattle.sentencing.proofs.Verdicts.{single-unplanned, single-judged}
 use Rattle.sentencing.proofs.judging.judge_single.Goals as goal
 
-pub returns-in-Refused : goal.returns-in-Refused
-unfolding judge_single
-returns-in-Refused c =
+pub returns-in_err-plan : goal.returns-in_err-plan
+returns-in_err-plan c =
     let a = c.args in
-    c.single_judged.ensures
-    ∙ ap (beside zero_plan plan_judged)
-    (judged-refused (single_plan (asked_paper a.lot) a.book.now)
-    (λ p. judge_items a.lot.column p a.sample.now) _ _
-    (single-refused zero_plan _ _ _ c.single_plan-planned.ensures _ _
-    c.in-Refused.is))
+    handed-on (judged_by plan_paper) _ _ c.from_residual.ensures.1
+    ∙ single-unplanned (asked_paper a.lot) a.book.now a.sample.now _ _ c.in_err-plan.ensures
 
-pub returns-in-Given : goal.returns-in-Given
-unfolding judge_single
-returns-in-Given c =
+pub returns-in_err-verdict : goal.returns-in_err-verdict
+returns-in_err-verdict c =
     let a = c.args in
-    let plan = plan_paper c.single_plan-planned.result.plan in
-    let g = single-given zero_plan (single_plan (asked_paper a.lot) a.book.now) _ plan
-    c.single_plan-planned.ensures c.in-Given.is in
-    c.single_judged-in-Given.ensures
-    ∙ ap (beside zero_plan plan_judged)
-    (judged-given (single_plan (asked_paper a.lot) a.book.now)
-    (λ p. judge_items a.lot.column p a.sample.now) plan
-    c.single_sample.result g
-    (c.single_sample.ensures
-    ∙ single-sample (asked_paper a.lot) a.book.now a.sample.now plan g))
+    handed-on (judged_by plan_paper) _ _ c.from_residual-in_err-verdict.ensures.1
+    ∙ single-judged (asked_paper a.lot) a.book.now a.sample.now _ _ c.in_ok-plan.ensures c.in_err-verdict.ensures
+
+pub returns : goal.returns
+returns c =
+    let a = c.args in
+    single-judged (asked_paper a.lot) a.book.now a.sample.now _ _ c.in_ok-plan.ensures c.in_ok-verdict.ensures

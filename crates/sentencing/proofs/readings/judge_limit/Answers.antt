@@ -1,29 +1,32 @@
 -- `sentencing::readings::judge_limit` meets its contract.
 -- Assumes nothing.
-use mathlib.Core.Path.{sym, ap, ◌∙◌}
-use mathlib.Core.Bool.{true, false}
-use mir.Syntax.{w32}
-use mir.ValLaws.{to_z-of_z}
-use Rattle.plans.specs.Paper.{asked_paper}
-use Rattle.gauge.specs.Paper.{spread_paper}
-use Rattle.sentencing.specs.Paper.{one_of}
-use Rattle.sentencing.proofs.OneLimit.{one-limit}
+use mathlib.Core.Path.{◌∙◌}
+use Rattle.plans.specs.Paper.{asked_paper, judged_by}
+use Rattle.entry.specs.Paper.{variables_paper}
+use Rattle.gauge.specs.Paper.{spread_paper, is_upper, value_of}
+use Rattle.choosing.specs.Paper.{lettered_by}
+use Rattle.choosing.proofs.Supplies.{handed-on}
+use Rattle.sentencing.proofs.Verdicts.{limit-unplanned, limit-judged}
 use Rattle.sentencing.proofs.readings.judge_limit.Goals as goal
 
-pub returns-then-upper : goal.returns-then-upper
-returns-then-upper c =
+pub returns-in_err-plan : goal.returns-in_err-plan
+returns-in_err-plan c =
     let a = c.args in
-    let j = rw (to_z-of_z w32 a.limit c.ranges.limit) at c.judge.ensures in
-    rw c.if-upper.true
-    (c.one_side.ensures ∙ ap one_of j
-    ∙ sym (one-limit (spread_paper a.method) true (asked_paper a.lot) a.book.now a.limit
-    a.readings.now))
+    handed-on (judged_by variables_paper) _ _ c.from_residual.ensures.1
+    ∙ limit-unplanned (spread_paper a.method) (asked_paper a.lot) a.book.now a.readings.now (is_upper a.limit)
+    (value_of a.limit) _ _ _ c.is_known.ensures c.in_err-plan.ensures
+
+pub returns-in_err-verdict : goal.returns-in_err-verdict
+returns-in_err-verdict c =
+    let a = c.args in
+    handed-on (judged_by variables_paper) _ _ c.from_residual-in_err-verdict.ensures.1
+    ∙ limit-judged (spread_paper a.method) (asked_paper a.lot) a.book.now a.readings.now (is_upper a.limit)
+    (value_of a.limit) (lettered_by variables_paper c.in_ok-plan.field-0) _ c.is_known.ensures c.in_ok-plan.ensures _
+    c.sides_of.ensures _ c.in_err-verdict.ensures
 
 pub returns : goal.returns
 returns c =
     let a = c.args in
-    let j = rw (to_z-of_z w32 a.limit c.ranges.limit) at c.judge-2.ensures in
-    rw c.if-upper.false
-    (c.one_side-2.ensures ∙ ap one_of j
-    ∙ sym (one-limit (spread_paper a.method) false (asked_paper a.lot) a.book.now a.limit
-    a.readings.now))
+    limit-judged (spread_paper a.method) (asked_paper a.lot) a.book.now a.readings.now (is_upper a.limit)
+    (value_of a.limit) (lettered_by variables_paper c.in_ok-plan.field-0) _ c.is_known.ensures c.in_ok-plan.ensures _
+    c.sides_of.ensures _ c.in_ok-verdict.ensures

@@ -1,7 +1,0 @@
--- `choosing::variables_unplanned` meets its contract.
--- Assumes nothing.
-use Rattle.choosing.proofs.Beside.{unplanned-beside}
-use Rattle.choosing.proofs.variables_unplanned.Goals as goal
-
-pub returns : goal.returns
-returns c = unplanned-beside c.no_readings.ensures

@@ -1,1 +1,0 @@
--- `severity::fresh` meets its contract. Assumes nothing.

@@ -1,0 +1,10 @@
+-- `terminal::planning::put_numbers` meets its contract. The invariant: i numbers stand in the part.
+-- Assumes nothing.
+use Prim.Native.Nat.{◌*◌}
+use mathlib.Core.Path.{◌≡◌}
+use lib.ListN.{take}
+use Rattle.rules.specs.Numbers.{number_bytes}
+use Rattle.terminal.proofs.planning.put_numbers.Given as goal
+
+abbrev pub invariant-loop-i : goal.invariant-loop-i
+invariant-loop-i l = take (2 * l.i) l.part ≡ number_bytes (take l.i l.numbers)
