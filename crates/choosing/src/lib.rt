@@ -121,7 +121,7 @@ pub fn sequential_plan(lot: Asked, book: &[u8]) -> Result<Lettered<SequentialPla
     })
 }
 
-// The section of a method's plans.
+// The section of a method's plans. A truth value, as `sides_plan` promises: a plan asks no more of a spread.
 fn section_for(known: bool) -> usize
     ensures { result ≡ section_if known }
 {

@@ -18,7 +18,7 @@ const LEAST: usize = 100;
 
 // What is held between turns, how many bytes the piece has and how many of them were taken, how many bytes of the
 // output wait, whether the input has ended, and whether a call failed, which was then said on standard error. Numbers
-// and no slices: the memory is lent to the whole run.
+// and no slices: the memory is lent to the whole run. Two flags: `run` answers both, and a failed run may be over.
 #[derive(Clone, Copy)]
 pub struct Turn {
     pub state: State,
@@ -75,6 +75,7 @@ fn log_lines(turn: Turn, piece: &[u8], output: &mut [u8]) -> Turn
         × (result.waiting + line_room ≤ length output.old → result.taken ≡ length piece.now) }
 {
     let mut done = turn;
+    // It goes on by as many bytes as a line took, which no range says.
     while done.taken < piece.len() && done.waiting + LINE <= output.len() {
         done = log_line(done, piece, output);
     }
