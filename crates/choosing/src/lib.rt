@@ -222,6 +222,10 @@ pub fn sides_plan(known: bool, lot: Asked, lower: u32, book: &[u8]) -> Result<Si
         ..lot
     };
     let upper = readings_plan(known, lot, book);
+    // Under one column both sides have what was looked up once.
+    if lower == lot.column {
+        return join(upper, upper);
+    }
     // Only a sound book gives a plan, so that it needs no other check.
     let sound = upper.is_ok();
     let lower = if sound {

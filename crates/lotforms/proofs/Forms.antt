@@ -14,8 +14,8 @@ use Rattle.rules.specs.Log.{split_at, space, is_number, value_of, field_at, numb
 use Rattle.rules.specs.Log.{yes_or_no, order_in}
 use Rattle.rules.specs.Log.{order_line, unknown_line, line_of, original_letter, resubmitted_letter, steady_letter}
 use Rattle.rules.specs.Log.{permission_letter, corrective_letter}
-use Rattle.rules.specs.Feeding.{up_to}
-use Rattle.rules.proofs.LineForms.{rest_at, split-first}
+use Rattle.rules.specs.Feeding.{up_to, longest_line}
+use Rattle.rules.proofs.LineForms.{rest_at, split-first, long-unknown}
 use Rattle.lotforms.specs.Reading.{fields_from, numbers_then, lot_of, order_of, lot_from, order_from}
 use Rattle.lotforms.specs.Reading.{work_with, letter_from, form_of}
 use Rattle.lotforms.proofs.Reading.{rest-of}
@@ -152,6 +152,9 @@ false-true e = absurd cc
 
 -- a line by its bytes
 module _ (r : Bool) where
+  pub overlong : (l : List ℕ) → longest_line < length l → unknown_line ≡ form_of r l
+  overlong l h = sym (long-unknown (work_with r) l h)
+
   pub blank : (l : List ℕ) → length l < 1 → unknown_line ≡ form_of r l
   unfolding line_of split_at
   blank [] e = refl
@@ -204,4 +207,4 @@ module _ (r : Bool) where
 -- by the letter, and by the bytes before it is known
 pub ruleset letters = (known-lot, known-again, known-steady, known-permission, unknown-again, unlettered)
 
-pub ruleset lines = (blank, corrective, alone, unspaced, lettered)
+pub ruleset lines = (overlong, blank, corrective, alone, unspaced, lettered)

@@ -43,6 +43,9 @@ pub enum Line {
     Order(Order),
 }
 
+// The most bytes of a line that has a known form: a letter and four numbers of ten digits, one space apart.
+pub const LONGEST: usize = 45;
+
 // The bytes before the first separator, all where there is none.
 pub fn up_to(separator: u8, bytes: &[u8]) -> &[u8]
     ensures { result.now ≡ up_to separator bytes.now }
@@ -139,11 +142,14 @@ fn letter_line(resubmission: bool, letter: u8, fields: &[u8]) -> Option<Line>
     }
 }
 
-// What a line says, where it has a known form.
+// What a line says, where it has a known form; a longer one is not read.
 #[tactic(auto, using(crate::proofs::Forms::lines))]
 pub fn line_of(resubmission: bool, line: &[u8]) -> Option<Line>
     ensures { line_paper result ≡ form_of resubmission line.now }
 {
+    if LONGEST < line.len() {
+        return None;
+    }
     match line {
         [letter] if *letter == b'C' => Some(Line::Order(Order::Corrective)),
         [letter, gap, fields @ ..] if *gap == b' ' => letter_line(resubmission, *letter, fields),

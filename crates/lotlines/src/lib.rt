@@ -15,14 +15,12 @@ ghost use Rattle.lotlines.specs.Paper.{logged_paper, logged_on, grown, begun_pap
 ghost use Rattle.lotlines.specs.Paper.{Starts, Feeds};
 
 use closing::Offered;
+pub use lotforms::LONGEST;
 use lotforms::Line;
 pub use lottexts::{LINE, Text, header};
 use refusals::{Reason, Refusal};
 use severity::Work;
 use supply::Supply;
-
-// The most bytes of a line of the input that has a known form.
-pub const LONGEST: usize = 45;
 
 // What a line leaves: the record, and what it printed.
 #[derive(Clone, Copy)]
