@@ -12,7 +12,7 @@ use Rattle.plans.specs.Paper.{asked_paper}
 use Rattle.choosing.specs.Paper.{plan_alone, section_if}
 use Rattle.choosing.proofs.Supplies.{alone, ok-sound}
 use Rattle.choosing.proofs.sides_plan.Goals as goal
-use Rattle.choosing.proofs.sides_plan.Goals.{After-join, then-sound, else-sound}
+use Rattle.choosing.proofs.sides_plan.Goals.{After-join-2, then-sound, else-sound}
 
 pub returns-then-lower-lot : goal.returns-then-lower-lot
 returns-then-lower-lot c =
@@ -27,7 +27,7 @@ returns-then-lower-lot c =
 pub readings_plan_again-lower-requires : goal.readings_plan_again-lower-requires
 readings_plan_again-lower-requires c = search ok-sound
 
-lower : (c : After-join) → let a = c.args in
+lower : (c : After-join-2) → let a = c.args in
     answer_by plan_alone c.if-sound.lower
     ≡ readings_plan (section_if a.known) (under_column (asked_paper a.lot) a.lower) a.book.now
 lower c =
