@@ -166,13 +166,22 @@ module _ {k : Kind} {key ws : List ℕ} {start : ℕ} where
               ∙ ap (λ (x : Option ℕ). or_else x (under_from k key (n - (i + 1)) (at + size) ws)) (sym f);
         }
 
+    pub section-broken : {p : ℕ} → i < n → broken p ≡ here
+        → ReadTo (shift start (section k (drop start ws))) (onward start (section_place k key (drop start ws)))
+        (Err (Broken (at + p)))
+    section-broken {p} h q =
+        read-broken (sym (s.reads ∙ entries-broken k n i at (key_between k prev at ws) ws p h q))
+
+    pub section-shorts : i < n → short ≡ here
+        → ReadTo (shift start (section k (drop start ws))) (onward start (section_place k key (drop start ws)))
+        (Err Short)
+    section-shorts h q = read-short (sym (s.reads ∙ entries-short k n i at (key_between k prev at ws) ws h q))
+
+    -- .. of either fault, as the entry's reader tells it
     pub section-fault : {e : Fault} → i < n → walk_paper (Err e) ≡ shift at here
         → ReadTo (shift start (section k (drop start ws))) (onward start (section_place k key (drop start ws))) (Err e)
-    section-fault {e = Broken p} h t =
-        let r = broken-shifted at here t in
-        read-broken (ap broken r.2 ∙ sym (s.reads ∙ entries-broken k n i at (key_between k prev at ws) ws r.0 h r.1))
-    section-fault {e = Short} h t =
-        read-short (sym (s.reads ∙ entries-short k n i at (key_between k prev at ws) ws h (short-shifted at here t)))
+    section-fault {e = Broken p} h t = let r = broken-shifted at here t in rw r.2 (section-broken h r.1)
+    section-fault {e = Short} h t = section-shorts h (short-shifted at here t)
 
     pub section-done : n ≤ i
         → ReadTo (shift start (section k (drop start ws))) (onward start (section_place k key (drop start ws)))

@@ -10,7 +10,7 @@ use Rattle.std.proofs.lemmas.Result.{err_from_is_err_and}
 use Rattle.rules.specs.Numbers.{numbers_of}
 use Rattle.rules.proofs.Numbers.{numbers-part}
 use Rattle.book.specs.Paper.{is_absent, has_none}
-use Rattle.book.proofs.Fifth.{whole-opens, whole-absent, whole-none, whole-on, whole-fault}
+use Rattle.book.proofs.Fifth.{whole-opens, whole-absent, whole-none, whole-on, whole-fault, whole-done}
 use Rattle.book.proofs.check_sections.Goals as goal
 use Rattle.book.proofs.check_sections.Goals.{After-check_section}
 
@@ -50,3 +50,6 @@ returns-in_err-section c =
     let p = err_from_is_err_and c.from_residual.result c.from_residual.ensures.1 in
     rw (p.1, p.2)
     (whole-fault c.loop-kind.invariant (omega arith) (there d) (some d) c.in_err-section.ensures)
+
+pub returns-after-loop-kind : goal.returns-after-loop-kind
+returns-after-loop-kind c = whole-done c.loop-kind.invariant (omega arith)
