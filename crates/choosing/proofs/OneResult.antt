@@ -7,7 +7,7 @@ use mathlib.Core.List.{List, [], ◌∷◌}
 use Rattle.std.specs.Prelude.{Result, map}
 use Rattle.refusals.specs.declared.Reason.{Reason}
 use Rattle.refusals.specs.declared.Refusal.{Refusal}
-use Rattle.refusals.specs.Paper.{number_of, answer_by}
+use Rattle.refusals.specs.Paper.{answer_by}
 use Rattle.refusals.proofs.OneResult.{reason_back, reason-back, answer-one}
 use Rattle.rules.specs.Refusals.{Answer, refused, given}
 use Rattle.rules.specs.Staged as staged
@@ -24,11 +24,7 @@ use Rattle.entry.specs.declared.SidesPlan.{SidesPlan}
 use Rattle.entry.specs.Paper.{staged_paper, sequential_paper, variables_paper, sides_paper}
 use Rattle.entry.proofs.OneResult.{sequential_back, variables_back, sides_back}
 use Rattle.choosing.specs.declared.Lettered.{Lettered}
-use Rattle.choosing.specs.Paper.{lettered_by}
-
--- a refusal, by its number and place
-abbrev refusal_paper : Refusal → Answer (Unit {0})
-refusal_paper r = refused (number_of r.reason) r.place
+use Rattle.choosing.specs.Paper.{refusal_paper, lettered_by}
 
 refusal_back : Answer (Unit {0}) → Refusal
 refusal_back (refused n p) = record { reason = reason_back n; place = p }

@@ -4,9 +4,9 @@
 use Prim.Native.Nat.{ℕ, ◌*◌, ◌≤◌, ◌<◌}
 use mathlib.Core.Path.{◌≡◌, refl, sym, ap, ◌∙◌}
 use mathlib.Core.Bool.{Bool, true, false, cond, false≢true}
-use mathlib.Core.List.{List, [], ◌∷◌}
+use mathlib.Core.List.{List}
 use native.Mathlib.Omega.{arith}
-use borrow.Author.Tests.{eq-eqb, lt-ltb, le-ltb, ltb-true}
+use borrow.Author.Tests.{eq-eqb, lt-ltb, le-ltb, ltb-true, ltb-false}
 use lib.Dec.{ltb}
 use lib.ListN.{length, drop}
 use Rattle.std.specs.Prelude.{Result, Ok, Err}
@@ -14,22 +14,22 @@ use Rattle.std.specs.Result.{IsErrAnd, is_ok}
 use Rattle.std.proofs.lemmas.Result.{err_from_is_err_and}
 use Rattle.refusals.specs.declared.Refusal.{Refusal}
 use Rattle.refusals.specs.Paper.{number_of, answer_by}
-use Rattle.rules.specs.Refusals.{Answer, refused, given, Check, first_of, and_then}
+use Rattle.rules.specs.Refusals.{Answer, refused, given, first_of, and_then}
 use Rattle.rules.specs.Codes.{letter_of}
 use Rattle.rules.specs.Numbers.{numbers_of}
 use Rattle.rules.specs.Single.{cut_plan}
 use Rattle.rules.specs.Variables.{VariablesPlan}
-use Rattle.rules.specs.Book.{Checked, sound, broken_at, check_book, on_sound, Found, found, nothing, Kind, kinds}
+use Rattle.rules.specs.Book.{Checked, sound, broken_at, check_book, on_sound, Kind, kinds}
 use Rattle.rules.specs.Book.{kind_at, reduced_singles, reduced_of, variables, variables_of}
 use Rattle.rules.specs.Layout.{entry_of}
 use Rattle.rules.specs.Entries.{Asked, asked_checks, asked_letter, looked_up, from_entry, unless_above, Lettered}
 use Rattle.rules.specs.Entries.{lettered, plain_plan, single_plan, curtailed_plan, readings_plan}
-use Rattle.rules.proofs.Answers.{refused-given, given-one, then-given}
-use Rattle.rules.proofs.Checks.{asked-kept, asked-passed, asked-letter}
-use Rattle.rules.proofs.EntryLaws.{lot-given, sound-given, is-sound}
+use Rattle.rules.proofs.Answers.{refused-given, refused-then, given-one, then-given}
+use Rattle.rules.proofs.Checks.{checks-alike, asked-kept, asked-passed, asked-letter}
+use Rattle.rules.proofs.EntryLaws.{lot-passes, lot-given, sound-given, is-sound}
 use Rattle.rules.proofs.Numbers.{numbers-low}
 use Rattle.book.specs.Places.{place_under, place_held}
-use Rattle.book.proofs.PlaceLaws.{on-held, place-near}
+use Rattle.book.proofs.PlaceLaws.{on-refused, on-place, place-near}
 use Rattle.entry.specs.declared.VariablesPlan as read
 use Rattle.entry.specs.Paper.{variables_paper}
 use Rattle.choosing.specs.declared.Lettered as held_by
@@ -42,30 +42,6 @@ refused-alike : {A B : Type 0} (c : Checked) (n p m q : ℕ)
 refused-alike sound n p m q e = cc
 refused-alike (broken_at byte) n p m q e = cc
 
--- what follows on checks follows on what they let pass
-checks-then : {A B : Type 0} (cs : List Check) (a : Answer A) (next : A → Answer B)
-    → and_then (first_of cs a) next ≡ first_of cs (and_then a next)
-checks-then [] a next = refl
-checks-then (c ∷ cs) a next = on c.wrong (checks-then cs a next)
-  where
-    on : (t : Bool) → and_then (first_of cs a) next ≡ first_of cs (and_then a next)
-        → and_then (cond t (refused c.number c.place) (first_of cs a)) next
-        ≡ cond t (refused c.number c.place) (first_of cs (and_then a next))
-    on true h = refl
-    on false h = h
-
--- .. and on an entry
-entry-then : {A B : Type 0} (f : Found) (plan : List ℕ → Answer A) (next : A → Answer B)
-    → and_then (from_entry f plan) next ≡ from_entry f (λ e. and_then (plan e) next)
-entry-then nothing plan next = refl
-entry-then (found e) plan next = refl
-
-place-then : {A : Type 0} (a : Answer ℕ) (l : ℕ) (next : Lettered ℕ → Answer A)
-    → and_then (and_then a (λ p. given (record { letter = l; plan = p }))) next
-    ≡ and_then a (λ p. next (record { letter = l; plan = p }))
-place-then (refused n p) l next = refl
-place-then (given x) l next = refl
-
 module _ (section : ℕ) (q : Asked) (book : List ℕ) where
   abbrev place : Answer ℕ
   place = place_held section q.severity (letter_of q.size q.level) q.column book
@@ -73,8 +49,11 @@ module _ (section : ℕ) (q : Asked) (book : List ℕ) where
   abbrev own : ℕ
   own = letter_of q.size q.level
 
+  abbrev with_letter : ℕ → Lettered ℕ
+  with_letter p = record { letter = own; plan = p }
+
   abbrev lettered_place : ℕ → Answer (Lettered ℕ)
-  lettered_place p = given (record { letter = own; plan = p })
+  lettered_place p = given (with_letter p)
 
   -- a lot that has no letter is refused, after its book ..
   pub unasked : (n p m r : ℕ) → asked_letter q ≡ refused n p
@@ -121,29 +100,26 @@ module _ (section : ℕ) (q : Asked) (book : List ℕ) where
       let t = then-given place lettered_place _ g.1 in sym (ap (λ (y : Lettered ℕ). y.letter) (given-one t.2))
 
   -- What each plan of the book then is, from the entry on.
-  module _ (known : section < length kinds) {A : Type 0} (plan : ℕ → List ℕ → Answer A) where
-    pub on-entry : and_then (place_for section q book)
-        (λ x. plan x.letter (entry_of (kind_at section) (drop x.plan (numbers_of book))))
-        ≡ on_sound (check_book book) (first_of (asked_checks q) (from_entry (looked_up section q book) (plan own)))
-    on-entry = go (check_book book) refl
-      where
-        go : (c : Checked) → check_book book ≡ c
-            → and_then
-            (on_sound c (first_of (asked_checks q) (and_then place lettered_place)))
-            (λ x. plan x.letter (entry_of (kind_at section) (drop x.plan (numbers_of book))))
-            ≡ on_sound c (first_of (asked_checks q) (from_entry (looked_up section q book) (plan own)))
-        go (broken_at byte) s = refl
-        go sound s =
-            checks-then (asked_checks q) (and_then place lettered_place) _
-            ∙ ap (first_of (asked_checks q))
-            (place-then place own _
-            ∙ rw s at (on-held section q.severity own q.column book known (plan own)))
-
-  -- What each plan of the book is where its entry was found: by the lot's letter, and that of the entry.
   module _ (known : section < length kinds) {A : Type 0} (plan : List ℕ → Answer A) where
     abbrev pub supplied : Answer A
     supplied = on_sound (check_book book) (first_of (asked_checks q) (from_entry (looked_up section q book) plan))
 
+    -- none where no place was found
+    pub not-supplied : (n p : ℕ) → refused n p ≡ place_for section q book → supplied ≡ refused n p
+    not-supplied n p e = go (check_book book) refl (sym e)
+      where
+        go : (c : Checked) → check_book book ≡ c
+            → on_sound c (first_of (asked_checks q) (and_then place lettered_place)) ≡ refused n p
+            → on_sound c (first_of (asked_checks q) (from_entry (looked_up section q book) plan)) ≡ refused n p
+        go sound s h =
+            checks-alike (asked_checks q) n p _ _
+            (λ x.
+            let r = on-refused section q.severity own q.column book known
+            (refused-then place with_letter n p x) plan in
+            sym (r ∙ ap (λ (c : Checked). on_sound c (from_entry (looked_up section q book) plan)) s)) h
+        go (broken_at byte) s h = cc
+
+    -- .. and where its entry was found, by the lot's letter, and that of the entry
     pub record SuppliedAt (l p : ℕ) : Type 0 where
       pub letter : l ≡ own
       pub there : place ≡ given p
@@ -151,11 +127,30 @@ module _ (section : ℕ) (q : Asked) (book : List ℕ) where
 
     pub supplied-at : (l p : ℕ) → given (record { letter = l; plan = p }) ≡ place_for section q book → SuppliedAt l p
     supplied-at l p e =
+        let s = (sound-given (check_book book) _ _).0 (sym e) in
+        let g = (lot-given q (and_then place lettered_place) _).0 s.1 in
+        let h = held (record { letter = l; plan = p }) e in
         record {
           letter = own-letter (record { letter = l; plan = p }) e;
-          there = held (record { letter = l; plan = p }) e;
-          is = sym (on-entry known (λ l. plan)) ∙ rw (← e) refl;
+          there = h;
+          is = ap (on_sound (check_book book)) (lot-passes q _ g.0)
+              ∙ sym (on-place section q.severity own q.column book known p h plan);
         }
+
+  -- .. both as what follows on a look-up
+  module _ (known : section < length kinds) {A : Type 0} (plan : ℕ → List ℕ → Answer A) where
+    pub on-entry : and_then (place_for section q book)
+        (λ x. plan x.letter (entry_of (kind_at section) (drop x.plan (numbers_of book))))
+        ≡ on_sound (check_book book) (first_of (asked_checks q) (from_entry (looked_up section q book) (plan own)))
+    on-entry = go (place_for section q book) refl
+      where
+        go : (a : Answer (Lettered ℕ)) → a ≡ place_for section q book
+            → and_then a (λ x. plan x.letter (entry_of (kind_at section) (drop x.plan (numbers_of book))))
+            ≡ supplied known (plan own)
+        go (refused n p) e = sym (not-supplied known (plan own) n p e)
+        go (given x) e =
+            let s = supplied-at known (plan own) x.letter x.plan e in
+            ap (λ (l : ℕ). plan l (entry_of (kind_at section) (drop x.plan (numbers_of book)))) s.letter ∙ sym s.is
 
 -- the place of an entry that was found is within the book
 pub near : (section severity letter column at : ℕ) (book : List ℕ)
@@ -169,35 +164,57 @@ near section severity letter column at book e = on (ltb section (length kinds)) 
         omega (arith, place-near section severity letter column book known at e, numbers-low book)
     on false h = absurd (refused-given ((sound-given (check_book book) _ at).0 (rw h at e)).1)
 
--- A plan with its letter, where it is not above the lot.
+-- A plan that was found, with its letter, by its two ends: above the lot or not.
+module _ {P : Type 0} (section : ℕ) (known : section < length kinds) (of : List ℕ → P) (need : P → ℕ) (q : Asked)
+    (book : List ℕ) where
+  abbrev pub plan_of : List ℕ → Answer P
+  plan_of e = unless_above q.size (need (of e)) (of e)
+
+  abbrev pub Planned : Answer (Lettered P)
+  Planned = lettered q (supplied section q book known plan_of)
+
+  module _ (x : Lettered ℕ) (e : given x ≡ place_for section q book) (plan : P)
+      (h : plan ≡ of (entry_of (kind_at section) (drop x.plan (numbers_of book)))) where
+    abbrev found_at : SuppliedAt section q book known plan_of x.letter x.plan
+    found_at = supplied-at section q book known plan_of x.letter x.plan e
+
+    supplied-is : supplied section q book known plan_of ≡ unless_above q.size (need plan) plan
+    supplied-is = found_at.is ∙ rw (← h) refl
+
+    -- one above the lot is refused ..
+    pub plan-above : q.size < need plan → refused 6 0 ≡ Planned
+    plan-above b = sym (ap (lettered q) supplied-is ∙ rw (lt-ltb q.size (need plan) b) refl)
+
+    -- .. and any other is given with its letter
+    pub plan-given : need plan ≤ q.size → given (record { letter = x.letter; plan = plan }) ≡ Planned
+    plan-given b =
+        ap (λ (l : ℕ). given (record { letter = l; plan = plan })) found_at.letter
+        ∙ sym (ap (lettered q) supplied-is ∙ rw (le-ltb q.size (need plan) b) refl)
+
+    -- .. so that the test against the lot answers for it
+    pub plan-either : and_then (unless_above q.size (need plan) plan)
+        (λ p. given (record { letter = x.letter; plan = p }))
+        ≡ Planned
+    plan-either = on (ltb q.size (need plan)) refl
+      where
+        on : (t : Bool) → ltb q.size (need plan) ≡ t
+            → and_then {B = Lettered P} (cond t (refused 6 0) (given plan))
+            (λ p. given (record { letter = x.letter; plan = p }))
+            ≡ Planned
+        on true t = plan-above (ltb-true q.size (need plan) t)
+        on false t = plan-given (ltb-false q.size (need plan) t)
+
+-- From a look-up on, whether it found a place or not.
 module _ {P : Type 0} (of : List ℕ → P) (need : P → ℕ) (q : Asked) (book : List ℕ) where
-  -- what is looked up, from the place on
+  -- what is looked up, from its answer on
   pub from-place : (section : ℕ) → section < length kinds → (a : Answer (Lettered ℕ)) → a ≡ place_for section q book
       → and_then a (plan_at (kind_at section) of need q.size book)
       ≡ lettered q
       (on_sound (check_book book)
       (first_of (asked_checks q)
       (from_entry (looked_up section q book) (λ e. unless_above q.size (need (of e)) (of e)))))
-  from-place section known a h =
-      ap (λ (x : Answer (Lettered ℕ)). and_then x (plan_at (kind_at section) of need q.size book)) h
-      ∙ on-entry section q book known
-      (λ l e. and_then (unless_above q.size (need (of e)) (of e)) (λ p. given (record { letter = l; plan = p })))
-      ∙ sym (on (check_book book))
-    where
-      on : (c : Checked)
-          → lettered q
-          (on_sound c
-          (first_of (asked_checks q)
-          (from_entry (looked_up section q book) (λ e. unless_above q.size (need (of e)) (of e)))))
-          ≡ on_sound c
-          (first_of (asked_checks q)
-          (from_entry (looked_up section q book)
-          (λ e.
-          and_then (unless_above q.size (need (of e)) (of e))
-          (λ p. given (record { letter = letter_of q.size q.level; plan = p })))))
-      on (broken_at byte) = refl
-      on sound =
-          checks-then (asked_checks q) _ _ ∙ ap (first_of (asked_checks q)) (entry-then (looked_up section q book) _ _)
+  from-place section known (refused n p) h = sym (ap (lettered q) (not-supplied section q book known _ n p h))
+  from-place section known (given x) h = plan-either section known of need q book x h _ refl
 
   -- the plan that was read, by whether it is above the lot
   pub at-place : (k : Kind) (x : Lettered ℕ) (plan : P) → plan ≡ of (entry_of k (drop x.plan (numbers_of book)))
@@ -224,25 +241,6 @@ module _ {P : Type 0} (of : List ℕ → P) (need : P → ℕ) (q : Asked) (book
       (from_entry (looked_up section q book) (λ e. unless_above q.size (need (of e)) (of e)))))
   planned section known x f plan h needed n a e =
       at-place (kind_at section) x plan h needed n a e ∙ from-place section known (given x) f
-
--- a plan that was found, by its two ends
-module _ {P : Type 0} (section : ℕ) (known : section < length kinds) (of : List ℕ → P) (need : P → ℕ) (q : Asked)
-    (book : List ℕ) (x : Lettered ℕ) (e : given x ≡ place_for section q book) (plan : P)
-    (h : plan ≡ of (entry_of (kind_at section) (drop x.plan (numbers_of book)))) where
-  abbrev pub Planned : Answer (Lettered P)
-  Planned = lettered q (supplied section q book known (λ e. unless_above q.size (need (of e)) (of e)))
-
-  -- one above the lot is refused ..
-  pub plan-above : q.size < need plan → refused 6 0 ≡ Planned
-  plan-above b =
-      planned of need q book section known x e plan h (need plan) refl (refused 6 0)
-      (rw (lt-ltb q.size (need plan) b) refl)
-
-  -- .. and any other is given with its letter
-  pub plan-given : need plan ≤ q.size → given (record { letter = x.letter; plan = plan }) ≡ Planned
-  plan-given b =
-      planned of need q book section known x e plan h (need plan) refl (given tt)
-      (rw (le-ltb q.size (need plan) b) refl)
 
 -- a lot that has no plan of the tables is refused, after its book
 pub untabled : (q : Asked) (book : List ℕ) (n p m r : ℕ) → plain_plan q ≡ refused n p
@@ -306,9 +304,9 @@ given-sound section q book a e x g = ((sound-given (check_book book) _ x).0 (sym
 pub ok-sound : (section : ℕ) (q : Asked) (book : List ℕ) (r : Result (held_by.Lettered read.VariablesPlan) Refusal)
     → answer_by (lettered_by variables_paper) r ≡ lettered q (readings_plan section q book) → (t : Bool) → t ≡ is_ok r
     → t ≡ true → check_book book ≡ sound
-unfolding readings_plan
 ok-sound section q book (Ok x) e t i h =
-    let g = then-given (readings_plan section q book) _ _ (sym e) in ((sound-given (check_book book) _ g.0).0 g.1).0
+    let g = then-given (readings_plan section q book) _ _ (sym e) in
+    given-sound section q book (readings_plan section q book) refl g.0 g.1
 ok-sound section q book (Err n) e t i h = absurd (false≢true (sym i ∙ h))
 
 -- what `?` hands on is refused as it was met, with its place or at the start

@@ -1,6 +1,8 @@
 -- The documents' values for each case of the code's types, and what a look-up promises. Definitions only.
 use Rattle.std.specs.Prelude.{ℕ, Bool, cond, List, drop}
-use Rattle.rules.specs.Refusals.{Answer, given, first_of, and_then}
+use Rattle.refusals.specs.declared.Refusal.{Refusal}
+use Rattle.refusals.specs.Paper.{number_of}
+use Rattle.rules.specs.Refusals.{Answer, refused, given, first_of, and_then}
 use Rattle.rules.specs.Codes.{letter_of}
 use Rattle.rules.specs.Numbers.{numbers_of}
 use Rattle.rules.specs.Variables as variables
@@ -12,6 +14,10 @@ use Rattle.entry.specs.declared.VariablesPlan.{VariablesPlan}
 use Rattle.entry.specs.Paper.{variables_paper}
 use Rattle.book.specs.Places.{place_held}
 use Rattle.choosing.specs.declared.Lettered.{Lettered}
+
+-- a refusal by itself, by its number and place
+abbrev pub refusal_paper : Refusal → Answer (Unit {0})
+refusal_paper r = refused (number_of r.reason) r.place
 
 -- a plan with its letter, by the plan's own paper
 abbrev pub lettered_by : {P A : Type 0} → (P → A) → Lettered P → rules.Lettered A
