@@ -365,7 +365,7 @@ pub fn table_plan(lot: Asked) -> Result<SinglePlan, Reason>
 }
 
 // "normal s 15 is 1/3 and s 16 is 1/2; tightened s 16 is 1/3 and s 17 is 1/2".
-#[tactic(auto, unfolding(rules::specs::Fractional::share_at, rules::specs::Fractional::share_in))]
+#[tactic(auto, using(crate::proofs::Shares::shares))]
 pub fn share_at(severity: u32, column: u32, letter: u8) -> u8
     ensures { result ≡ share_at severity column letter }
 {
