@@ -8,8 +8,10 @@ use Rattle.rules.specs.Refusals.{given}
 use Rattle.rules.specs.Entries.{Asked, asked_letter}
 use Rattle.rules.proofs.Checks.{asked-plannable, asked-letter, plain-given}
 use Rattle.rules.proofs.Tables.{letter-within}
+use Rattle.refusals.specs.Paper.{itself}
 use Rattle.plans.specs.Paper.{asked_paper, severity_of, PlaceOf}
 use Rattle.plans.proofs.Master.{of-table}
+use Rattle.plans.proofs.Standing.{planned-given}
 use Rattle.plans.proofs.Place.of.Goals as goal
 use Rattle.plans.proofs.Place.of.Goals.{In_ok-letter, in-0, in-1}
 
@@ -18,7 +20,7 @@ lot c = asked_paper c.args.lot
 
 -- the letter that the lot has
 has : (c : In_ok-letter) → asked_letter (lot c) ≡ given c.in_ok-letter.letter
-has c = sym c.in_ok-letter.ensures
+has c = sym (planned-given itself c.asked_letter.ensures c.in_ok-letter.was)
 
 pub invariant_of-result : goal.invariant_of-result
 invariant_of-result c =
