@@ -275,7 +275,6 @@ fn size_of(letter: u8) -> u16
 
 impl Place {
     // Of a lot, by its Table 1 letter; a reduced one has no master table.
-    #[tactic(auto, unfolding(rules::specs::Entries::plain_plan, rules::specs::Entries::asked_letter))]
     fn of(lot: Asked) -> Result<Place, Reason>
         ensures { MatchResult result
             (λ place. PlaceOf (asked_paper lot) (severity_of place.table) place.column place.letter)
