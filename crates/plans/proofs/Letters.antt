@@ -1,11 +1,12 @@
--- The code's sizes and letters are those of Table 1, by computed tests over all rows and levels.
+-- The code's sizes and letters are those of Table 1, by computed tests over all rows and levels, and so is the letter
+-- of every size.
 -- Assumes nothing.
-use Rattle.std.proofs.Common.{ℕ, ◌≡◌, ◌<◌, Bool, true, false, cond, ◌&&◌, List, [], ◌∷◌, leb, eqb, get_or, unwrap_or}
-use Rattle.std.proofs.Common.{find, option_map, Option, Some, ap}
+use Rattle.std.proofs.Common.{ℕ, ◌≡◌, ◌<◌, Bool, true, false, cond, List, [], ◌∷◌, leb, eqb, get_or, unwrap_or}
+use Rattle.std.proofs.Common.{find, option_map, Option, Some, ap, suc, refl, length, arith}
 use lib.Dec.{T, eqb→eq}
 use Rattle.rules.specs.Codes as paper
 use Rattle.rules.specs.Codes.{table_one, above, row_from, row_of}
-use Rattle.rules.proofs.Bounded.{all, all-at, all-at₂, both_left, both-right}
+use Rattle.rules.proofs.Bounded.{all, all-at, all-at₂}
 use Rattle.plans.specs.declared.SizeRow.{SizeRow}
 use Rattle.plans.specs.declared.TheConstants.{TABLE_ONE, ABOVE}
 use Rattle.plans.specs.Paper.{letters_in}
@@ -43,34 +44,20 @@ module _ (none : ℕ) where
 abbrev letters_by : Option SizeRow → List ℕ
 letters_by row = unwrap_or (option_map (λ row. row.1) row) ABOVE.1
 
--- a row of the code and one of Table 1 end alike and have the same letters
-letters_alike : List ℕ → paper.SizeRow → ℕ → Bool
-letters_alike ls row level = eqb (get_or ls level 0) (get_or (paper.letters row.levels) level 0)
-
-alike : List SizeRow → List paper.SizeRow → Bool
-alike [] [] = all 7 (letters_alike ABOVE.1 above)
-alike [] (y ∷ ys) = false
-alike (x ∷ xs) [] = false
-alike (x ∷ xs) (y ∷ ys) = eqb x.0 y.last && (all 7 (letters_alike x.1 y) && alike xs ys)
-
-all-alike : T (alike TABLE_ONE table_one)
-unfolding alike letters_alike
-all-alike = tt
-
-module _ (size level : ℕ) (l : level < 7) where
-  letter-from : (xs : List SizeRow) (ys : List paper.SizeRow) → T (alike xs ys)
+module _ (size level : ℕ) where
+  -- two tables whose rows end alike and have the same letters give one letter
+  letter-from : (xs : List SizeRow) (ys : List paper.SizeRow) → length xs ≡ length ys
+      → ((r : ℕ) → r < length xs → (get_or xs r ABOVE).0 ≡ (get_or ys r above).last)
+      → ((r : ℕ) → r < suc (length xs)
+      → get_or (get_or xs r ABOVE).1 level 0 ≡ get_or (paper.letters (get_or ys r above).levels) level 0)
       → get_or (letters_in xs size) level 0 ≡ get_or (paper.letters (row_from ys size).levels) level 0
-  unfolding alike letters_alike row_from
-  letter-from [] [] t = eqb→eq _ _ (all-at 7 (letters_alike ABOVE.1 above) t level l)
-  letter-from [] (y ∷ ys) t = elim t [ ]
-  letter-from (x ∷ xs) [] t = elim t [ ]
-  letter-from (x ∷ xs) (y ∷ ys) t =
-      let here = both_left (eqb x.0 y.last) (all 7 (letters_alike x.1 y) && alike xs ys) t in
-      let rest = both-right (eqb x.0 y.last) (all 7 (letters_alike x.1 y) && alike xs ys) t in
-      let same = both_left (all 7 (letters_alike x.1 y)) (alike xs ys) rest in
-      let next = letter-from xs ys (both-right (all 7 (letters_alike x.1 y)) (alike xs ys) rest) in
-      let held = eqb→eq _ _ (all-at 7 (letters_alike x.1 y) same level l) in
-      go (leb size x.0) (leb size y.last) (ap (leb size) (eqb→eq x.0 y.last here)) held next
+  unfolding row_from
+  letter-from [] [] e last held = held 0 (omega arith)
+  letter-from [] (y ∷ ys) e last held = absurd (omega arith)
+  letter-from (x ∷ xs) [] e last held = absurd (omega arith)
+  letter-from (x ∷ xs) (y ∷ ys) e last held =
+      go (leb size x.0) (leb size y.last) (ap (leb size) (last 0 (omega arith))) (held 0 (omega arith))
+      (letter-from xs ys (omega arith) (λ r h. last (suc r) (omega arith)) (λ r h. held (suc r) (omega arith)))
     where
       go : (b d : Bool) → b ≡ d → get_or x.1 level 0 ≡ get_or (paper.letters y.levels) level 0
           → get_or (letters_in xs size) level 0 ≡ get_or (paper.letters (row_from ys size).levels) level 0
@@ -82,6 +69,8 @@ module _ (size level : ℕ) (l : level < 7) where
       go false false e h n = n
 
   -- the code's letter of a size is that of Table 1
-  pub letter-found : get_or (letters_in TABLE_ONE size) level 0 ≡ paper.letter_of size level
+  pub letter-found : level < 7 → get_or (letters_in TABLE_ONE size) level 0 ≡ paper.letter_of size level
   unfolding row_of paper.letter_of
-  letter-found = letter-from TABLE_ONE table_one all-alike
+  letter-found l =
+      letter-from TABLE_ONE table_one refl (λ r h. last-held r (omega arith))
+      (λ r h. letter-held 0 r level (omega arith) l)

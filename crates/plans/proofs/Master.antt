@@ -25,20 +25,6 @@ pub of-table : (t : Table) → severity_of t < 2
 of-table tables.Normal = omega arith
 of-table tables.Tightened = omega arith
 
--- the code's numbers along s are those of the tables, by one computed test
-ac_held : ℕ → ℕ → Bool
-ac_held v i = eqb (get_or (get_or ACS v []) i 0) (ac_along v (17 + i))
-
-ac-held : T (all 2 (λ v. all 10 (ac_held v)))
-unfolding ac_held
-ac-held = tt
-
-pub ac-found : (v s : ℕ) → v < 2 → 17 ≤ s → s ≤ 26 → get_or (get_or ACS v []) (s - 17) 0 ≡ ac_along v s
-unfolding ac_held
-ac-found v s h f l =
-    let e : 17 + (s - 17) ≡ s = omega arith in
-    eqb→eq _ _ (all-at₂ 2 10 ac_held ac-held v (s - 17) h (omega arith)) ∙ ap (ac_along v) e
-
 -- s is none of n numbers from k on
 abbrev pub NoneOf : ℕ → ℕ → ℕ → Type 0
 NoneOf s k zero = Unit {0}
@@ -71,6 +57,24 @@ no-ac v s h e u =
     (λ p. eqb→eq _ _
     (all-at (17 + v) (none_under v) (all-at 2 (λ v. all (17 + v) (none_under v)) none-under v h) s (omega arith)))
     (λ p. none-over v s h (omega (arith, past s (17 + v) (10 - v) (omega arith) u))))
+
+-- s before them or past them is none of them
+pub none-of : (s k n : ℕ) → (k ≤ s → k + n ≤ s) → NoneOf s k n
+none-of s k zero h = tt
+none-of s k (suc n) h = (none-of s k n (λ l. omega (arith, h l)), λ e. omega (arith, h (omega arith)))
+
+-- the code's numbers along s are those of the tables, by one computed test
+ac_held : ℕ → ℕ → Bool
+ac_held v i = eqb (get_or (get_or ACS v []) i 0) (ac_along v (17 + i))
+
+ac-held : T (all 2 (λ v. all 10 (ac_held v)))
+unfolding ac_held
+ac-held = tt
+
+pub ac-found : (v s : ℕ) → v < 2 → 17 ≤ s → s ≤ 26 → get_or (get_or ACS v []) (s - 17) 0 ≡ ac_along v s
+unfolding ac_held
+ac-found v s h f l =
+    eqb→eq _ _ (all-at₂ 2 10 ac_held ac-held v (s - 17) h (omega arith)) ∙ ac-in-arm v refl (omega arith)
 
 -- up to 24 a row's letters hold one Ac or none
 one_ac : ℕ → ℕ → Bool

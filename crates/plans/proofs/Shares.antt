@@ -50,6 +50,10 @@ module _ (v column letter : ℕ) where
   pub none-else : (v ≡ 0 → ⊥) → (v ≡ 1 → ⊥) → Share 0
   none-else a b = sym (none-from-reduced v column letter (omega arith))
 
+-- `plans::share_at` is proved by these, one for each of its tests
+pub ruleset shares =
+    (third-normal, half-normal, none-normal, third-tightened, half-tightened, none-tightened, none-else)
+
 -- the box at the lot's own letter
 module _ (q : Asked) (letter share : ℕ) (l : letter ≡ letter_of q.size q.level)
     (e : share ≡ share_at q.severity q.column letter) where

@@ -1,6 +1,5 @@
 -- What an answer of the documents is, by the result that stands for it.
 -- Assumes nothing.
-use Prim.Native.Nat.{ℕ}
 use mathlib.Core.Path.{◌≡◌}
 use Rattle.std.specs.Prelude.{Result, Ok, Err}
 use Rattle.rules.specs.Refusals.{Answer, refused, given}

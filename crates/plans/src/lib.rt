@@ -275,7 +275,6 @@ fn size_of(letter: u8) -> u16
 
 impl Place {
     // Of a lot, by its Table 1 letter; a reduced one has no master table.
-    #[tactic(auto, unfolding(rules::specs::Entries::plain_plan, rules::specs::Entries::asked_letter))]
     fn of(lot: Asked) -> Result<Place, Reason>
         ensures { MatchResult result
             (λ place. PlaceOf (asked_paper lot) (severity_of place.table) place.column place.letter)
@@ -365,7 +364,7 @@ pub fn table_plan(lot: Asked) -> Result<SinglePlan, Reason>
 }
 
 // "normal s 15 is 1/3 and s 16 is 1/2; tightened s 16 is 1/3 and s 17 is 1/2".
-#[tactic(auto, unfolding(rules::specs::Fractional::share_at, rules::specs::Fractional::share_in))]
+#[tactic(auto, using(crate::proofs::Shares::shares))]
 pub fn share_at(severity: u32, column: u32, letter: u8) -> u8
     ensures { result ≡ share_at severity column letter }
 {

@@ -4,12 +4,15 @@
 use Prim.Native.Nat.{ℕ, ◌<◌}
 use mathlib.Core.Path.{◌≡◌, refl, ap, sym, ◌∙◌}
 use native.Mathlib.Omega.{arith}
+use Rattle.std.proofs.lemmas.Result.{err_from_is_err_and}
 use Rattle.rules.specs.Refusals.{given}
 use Rattle.rules.specs.Entries.{Asked, asked_letter}
-use Rattle.rules.proofs.Checks.{asked-plannable, asked-letter, plain-given}
+use Rattle.rules.proofs.Checks.{asked-plannable, asked-letter, plain-refused, plain-reduced, plain-given}
 use Rattle.rules.proofs.Tables.{letter-within}
+use Rattle.refusals.specs.Paper.{itself}
 use Rattle.plans.specs.Paper.{asked_paper, severity_of, PlaceOf}
 use Rattle.plans.proofs.Master.{of-table}
+use Rattle.plans.proofs.Standing.{planned-refused, planned-given}
 use Rattle.plans.proofs.Place.of.Goals as goal
 use Rattle.plans.proofs.Place.of.Goals.{In_ok-letter, in-0, in-1}
 
@@ -18,7 +21,20 @@ lot c = asked_paper c.args.lot
 
 -- the letter that the lot has
 has : (c : In_ok-letter) → asked_letter (lot c) ≡ given c.in_ok-letter.letter
-has c = sym c.in_ok-letter.ensures
+has c = sym (planned-given itself c.asked_letter.ensures c.in_ok-letter.was)
+
+pub returns-in_err-letter : goal.returns-in_err-letter
+returns-in_err-letter c =
+    let p = err_from_is_err_and c.from_residual.result c.from_residual.ensures.1 in
+    rw (p.1, p.2)
+    (plain-refused (asked_paper c.args.lot) _ _
+    (sym (planned-refused itself c.asked_letter.ensures c.in_err-letter.was)))
+
+pub returns-in_default : goal.returns-in_default
+returns-in_default c =
+    let at = (goal.at.returns-in_default c).In_ok-letter in
+    let p = asked-plannable (lot at) _ (has at) in
+    plain-reduced (lot at) _ (has at) (omega (arith, p.severity))
 
 pub invariant_of-result : goal.invariant_of-result
 invariant_of-result c =
