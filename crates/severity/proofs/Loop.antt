@@ -57,13 +57,21 @@ module _ (w : Work) (start : Record) (h out : List ℕ) where
     pub walked-past : length buffer ≤ i → buffer ≡ written_from w start h out (i + 1)
     walked-past l = sym (set_out buffer i r.severity l) ∙ walked-more
 
-  -- the walk after such a byte
+  -- the walk after such a byte, whose severity was written ..
   pub walking-on : (buffer after : List ℕ) (held t : Record) (i : ℕ) → Walking w start h out buffer held i
       → given t ≡ step held (event_in w (get_or h i 0)) → after ≡ set buffer i t.severity
       → Walking w start h out after t (i + 1)
   walking-on buffer after held t i v m b =
       let q = from-given w h start i held t v.reached m in
       record { reached = q; left = b ∙ walked-more buffer i v.left q }
+
+  -- .. or is past the buffer's end
+  pub walking-past : (buffer after : List ℕ) (held t : Record) (i : ℕ) → Walking w start h out buffer held i
+      → given t ≡ step held (event_in w (get_or h i 0)) → after ≡ buffer → length buffer ≤ i
+      → Walking w start h out after t (i + 1)
+  walking-past buffer after held t i v m b l =
+      let q = from-given w h start i held t v.reached m in
+      record { reached = q; left = b ∙ walked-past buffer i v.left q l }
 
 -- an event moves a record as its byte does
 pub event-walked : (r : Record) (e : Event) (w : Work) (byte : ℕ) (out last : List ℕ)

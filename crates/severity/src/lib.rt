@@ -192,7 +192,7 @@ impl Record {
         }
     }
 
-    #[tactic(auto, unfolding(rules::specs::Severity::on_lot))]
+    #[tactic(auto, using(crate::proofs::Laws::lot_laws))]
     fn on_lot(self, lot: Lot) -> Result<Record, Reason>
         ensures { reason_by record_paper result ≡ on_lot self.severity (lot_paper lot) (record_paper self) }
     {
@@ -205,7 +205,7 @@ impl Record {
         }
     }
 
-    #[tactic(auto, unfolding(rules::specs::Severity::on_resubmitted))]
+    #[tactic(auto, using(crate::proofs::Laws::resubmission_laws))]
     fn on_resubmitted(self) -> Result<Record, Reason>
         ensures { reason_by record_paper result ≡ on_resubmitted self.severity (record_paper self) }
     {
@@ -218,7 +218,7 @@ impl Record {
 
     // An order that leaves steady and permission so; where `stands` is false it withdraws. Both come beside the record:
     // `step` would copy them at every byte if it changed a record before the call.
-    #[tactic(auto, unfolding(rules::specs::Severity::on_order))]
+    #[tactic(auto, using(crate::proofs::Laws::order_laws))]
     fn on_order(self, stands: bool, steady: bool, permission: bool) -> Record
         ensures { record_paper result ≡ on_order self.severity stands steady permission (record_paper self) }
     {
@@ -236,7 +236,7 @@ impl Record {
         }
     }
 
-    #[tactic(auto, unfolding(rules::specs::Severity::on_corrective))]
+    #[tactic(auto, using(crate::proofs::Laws::corrective_laws))]
     fn on_corrective(self) -> Result<Record, Reason>
         ensures { reason_by record_paper result ≡ on_corrective self.severity (record_paper self) }
     {
@@ -248,7 +248,6 @@ impl Record {
     }
 
     // What an event makes of a record, in range or not.
-    #[tactic(auto, unfolding(rules::specs::Severity::step))]
     fn step(self, event: Event) -> Result<Record, Reason>
         ensures { reason_by record_paper result ≡ step (record_paper self) (event_paper event) }
     {
@@ -275,7 +274,6 @@ impl Record {
     }
 }
 
-#[tactic(auto, unfolding(rules::specs::Severity::figures_in_range))]
 pub fn in_range(old: Record) -> bool
     ensures { result ≡ in_range (record_paper old) }
 {
@@ -291,7 +289,7 @@ pub fn in_range(old: Record) -> bool
 }
 
 // The event of a history byte.
-#[tactic(auto, unfolding(rules::specs::History::event_in, rules::specs::History::event_of))]
+#[tactic(auto, using(crate::proofs::Laws::bytes))]
 pub fn event_of(work: Work, byte: u32) -> Event
     ensures { event_paper result ≡ event_in (work_paper work) byte }
 {

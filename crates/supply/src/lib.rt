@@ -89,7 +89,7 @@ impl CleanRun {
 
 impl Supply {
     // Is there a fractional plan: a fraction, at a letter of Table 1 and a column where items are 0 or 1?
-    #[tactic(auto, unfolding(rules::specs::Fractional::has_fractional_plan))]
+    #[tactic(auto, using(crate::proofs::Laws::plan_laws))]
     fn has_fraction(self, letter: u8, column: u8) -> bool
         ensures { result ≡ has_fractional_plan self.switching.severity column letter }
     {
@@ -168,7 +168,7 @@ impl Supply {
         }
     }
 
-    #[tactic(auto, unfolding(rules::specs::Supply::clean_in_range))]
+    #[tactic(auto, using(crate::proofs::Laws::range_laws))]
     fn clean_in_range(self) -> bool
         ensures { result ≡ clean_in_range self.switching.severity (clean_paper self.clean) }
     {

@@ -1,7 +1,6 @@
 -- `severity::walk` meets its contract. Assumes nothing.
-use Rattle.std.proofs.Common.{rules, refl, sym, ◌∙◌}
-use lib.Seq.{set_out}
-use Rattle.severity.proofs.Loop.{walking-first, walking-on, walked-none, walked-bad, walked-whole}
+use Rattle.std.proofs.Common.{rules, refl}
+use Rattle.severity.proofs.Loop.{walking-first, walking-on, walking-past, walked-none, walked-bad, walked-whole}
 use Rattle.severity.proofs.walk.Goals as goal
 use Rattle.severity.proofs.walk.Goals.{then-i-out, else-i-out}
 
@@ -17,11 +16,10 @@ returns-in-Err c =
 pub loop-i-preserved : goal.loop-i-preserved
 loop-i-preserved c =
     let m = rw (c.event_of.ensures, c.from-in-loop-i.ensures) at c.in-Ok.ensures in
-    walking-on _ _ _ _ _ _ _ _ _ c.loop-i.invariant m
-    (elim c.if-i-out.branch [
-      | then-i-out w ↦ w.out-is
-      | else-i-out w ↦ w.out-is ∙ sym (set_out _ _ _ w.if-i-out.false)
-    ])
+    elim c.if-i-out.branch [
+      | then-i-out w ↦ walking-on _ _ _ _ _ _ _ _ _ c.loop-i.invariant m w.out-is
+      | else-i-out w ↦ walking-past _ _ _ _ _ _ _ _ _ c.loop-i.invariant m w.out-is w.if-i-out.false
+    ]
 
 pub loop-i-init : goal.loop-i-init
 loop-i-init c = walking-first _ _ _ _

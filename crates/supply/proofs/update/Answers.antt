@@ -1,29 +1,22 @@
 -- `supply::update` meets its contract. Assumes nothing.
-use Rattle.std.proofs.Common.{◌≡◌, sym, ◌∙◌, true}
+use Rattle.std.proofs.Common.{ap, not}
 use Rattle.std.proofs.lemmas.Result.{err_from_is_err_and}
-use Rattle.rules.specs.Refusals.{Answer, given, and_then}
-use Rattle.rules.specs.Severity.{Event, Record, step, in_range, on_record}
-use Rattle.rules.specs.Supply.{Supply, supply_of, counts_on, clean_after, move, supply_in_range}
-use Rattle.rules.specs.Entries.{moved}
-use Rattle.rules.proofs.Bools.{and-left}
+use Rattle.supply.proofs.Laws.{moved-out, moved-refused, moved-given}
 use Rattle.supply.proofs.update.Goals as goal
 
--- a supply in range moves by its record's own step
-by-step : (s : Supply) (e x : Event) (a : Answer Record) → supply_in_range s ≡ true → x ≡ counts_on s e
-    → a ≡ on_record s.switching (step s.switching x)
-    → moved s e ≡ and_then a (λ r. given (supply_of r (clean_after s.switching.severity r.severity s.clean e)))
-unfolding move
-by-step s e x a h c q =
-    let k : in_range s.switching ≡ true = and-left (in_range s.switching) _ h in
-    rw (h, q, k, c)
+pub returns-then-not-in_range : goal.returns-then-not-in_range
+returns-then-not-in_range c =
+    rw c.from.ensures (moved-out _ _ _ c.in_range.ensures (ap not c.if-not-in_range.true))
 
 pub returns-in_err-switching : goal.returns-in_err-switching
 returns-in_err-switching c =
     let p = err_from_is_err_and c.from_residual.result c.from_residual.ensures.1 in
-    let h = sym c.in_range.ensures ∙ c.if-not-in_range.false in
-    rw (p.1, p.2) (sym (by-step _ _ _ _ h c.event_on.ensures c.in_err-switching.ensures))
+    let q = ap not c.if-not-in_range.false in
+    rw (p.1, p.2)
+    (moved-refused _ _ _ c.in_range.ensures _ _ c.event_on.ensures c.update.ensures q _ c.in_err-switching.was)
 
 pub returns : goal.returns
 returns c =
-    let h = sym c.in_range.ensures ∙ c.if-not-in_range.false in
-    rw c.clean_after-clean.ensures (sym (by-step _ _ _ _ h c.event_on.ensures c.in_ok-switching.ensures))
+    let q = ap not c.if-not-in_range.false in
+    moved-given _ _ _ c.in_range.ensures _ _ c.event_on.ensures c.update.ensures q _ _ c.in_ok-switching.was
+    c.clean_after-clean.ensures
