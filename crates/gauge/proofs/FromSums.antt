@@ -1,7 +1,7 @@
 -- Either method from the sums of raised readings.
 -- Assumes nothing.
 use Prim.Native.Nat.{ℕ, ◌+◌, ◌*◌, ◌-◌, ◌≤◌}
-use mathlib.Core.Path.{◌≡◌, refl, sym}
+use mathlib.Core.Path.{◌≡◌, refl, sym, ◌∙◌}
 use mathlib.Core.Bool.{Bool, true, false}
 use mathlib.Core.List.{List}
 use lib.IntN.{ℤ, pos, ◌-ℤ◌}
@@ -11,7 +11,7 @@ use Rattle.rules.specs.Limits.{Spread, estimated, known, Limits, one, both, Side
 use Rattle.rules.specs.Limits.{accepts_limits}
 use Rattle.rules.proofs.Diff.{Diff, diff-of, as-difference}
 use Rattle.rules.proofs.Readings.{spread-is, upper-is, lower-is, weighed}
-use Rattle.gauge.specs.Raised.{sum_from, squares_from, within_by, side_from, limits_from}
+use Rattle.gauge.specs.Raised.{sum_from, squares_from, within_by, side_from, JudgesSide, limits_from}
 
 module _ (n t : ℕ) where
   from-spread : (q : ℕ) → Diff (spread n (sum_from n t) (squares_from n t q)) (n * q) (t * t)
@@ -45,6 +45,13 @@ module _ (m : Spread) (n k t q u : ℕ) (limit : ℤ) (z : limit ≡ pos u -ℤ 
   pub lower-side : within_by m n k (pos t -ℤ pos (n * u)) (spread n (sum_from n t) (squares_from n t q))
       ≡ side_from m false (record { n = n; k = k }) limit t q
   lower-side = rw (lower-margin n t u limit z) refl
+
+-- a side of a plan, by a margin that judges it; `local` is the limit as the code holds it
+pub side-judged : (m : Spread) (upper : Bool) (p : SidesPlan) (t q : ℕ) {n k : ℕ} {limit local v : ℤ} {r : Bool}
+    → local ≡ limit → n ≡ p.n → k ≡ (side_of upper p).k → JudgesSide upper n k local t q v
+    → r ≡ within_by m n k v (spread n (sum_from n t) (squares_from n t q))
+    → r ≡ side_from m upper (side_of upper p) limit t q
+side-judged m upper p t q held same its judges tested = tested ∙ judges m ∙ rw (held, same, its) refl
 
 -- with S and W themselves
 module _ (m : Spread) (xs : List ℤ) (t q : ℕ) where

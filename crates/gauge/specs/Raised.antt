@@ -33,3 +33,9 @@ abbrev pub limits_from : Spread → Limits → SidesPlan → ℕ → ℕ → Boo
 limits_from m (one upper limit) p t q = side_from m upper (side_of upper p) limit t q
 limits_from m (both upper lower) p t q =
     side_from m true (side_of true p) upper t q && side_from m false (side_of false p) lower t q
+
+-- a margin by which either method judges a side as by its limit, of n readings with the sums t and q
+abbrev pub JudgesSide : Bool → ℕ → ℕ → ℤ → ℕ → ℕ → ℤ → Type 0
+JudgesSide upper n k limit t q m =
+    (method : Spread) → within_by method n k m (spread n (sum_from n t) (squares_from n t q))
+    ≡ side_from method upper (record { n = n; k = k }) limit t q

@@ -9,7 +9,7 @@ ghost use Rattle.rules.specs.Screen.{quotient, shown_of};
 ghost use Rattle.rules.specs.Screen as screens;
 ghost use Rattle.rules.specs.Entries.{readings_sample};
 ghost use Rattle.refusals.specs.Paper.{reason_by};
-ghost use Rattle.gauge.specs.Raised.{sum_from, squares_from, Passed, within_by, limits_from};
+ghost use Rattle.gauge.specs.Raised.{sum_from, squares_from, Passed, within_by, JudgesSide, limits_from};
 ghost use Rattle.gauge.specs.Paper.{shown_paper, spread_paper, limits_paper, is_upper, value_of, sides_held};
 ghost use Rattle.plans.specs.Paper.{verdict_paper};
 ghost use Rattle.entry.specs.Paper.{sides_paper};
@@ -171,9 +171,11 @@ impl Margin {
     fn of(limit: Limit, plan: SidesPlan, sums: Sums) -> Margin
         requires right { VariablesRight (side_of (is_upper limit) (sides_paper plan)) }
         requires in_range { in_gauge (value_of limit) ≡ true }
-        ensures { (result.k ≡ (side_of (is_upper limit) (sides_paper plan)).k)
+        ensures measured { (result.k ≡ (side_of (is_upper limit) (sides_paper plan)).k)
             × (pos result.high -ℤ pos result.low
             ≡ margin (is_upper limit) sums.n (sum_from sums.n sums.t) (value_of limit)) }
+        ensures side { JudgesSide (is_upper limit) sums.n result.k (value_of limit) sums.t sums.q
+            (pos result.high -ℤ pos result.low) }
     {
         let at_limit = sums.n * raised(limit.value());
         match limit {

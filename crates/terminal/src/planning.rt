@@ -1,5 +1,6 @@
 // The plan of a lot before it is drawn, and whether a book is sound.
 ghost use Rattle.std.specs.Prelude.{◌≡◌, ◌*◌, ◌≤◌, ◌++◌, length, drop};
+ghost use Rattle.std.proofs.lemmas.List.Edits.{sets};
 ghost use Rattle.rules.specs.Codes.{table_one_letter};
 ghost use Rattle.rules.specs.Numbers.{number_bytes};
 ghost use Rattle.rules.specs.Entries.{single_plan, fractional_plan, staged_plan, sequential_plan, variables_plan};
@@ -113,7 +114,8 @@ pub extern "C" fn hm_fractional_plan(
 #[tactic(auto, unfolding(rules::specs::Numbers::number_bytes))]
 fn put_numbers(part: &mut [u8], numbers: &[u16])
     requires { length part.old ≡ 2 * length numbers.now }
-    ensures { part.new ≡ number_bytes numbers.now }
+    ensures stored { part.new ≡ sets part.old 0 (number_bytes numbers.now) }
+    ensures whole { part.new ≡ number_bytes numbers.now }
 {
     for (i, x) in numbers.iter().enumerate() {
         part[2 * i..2 * i + 2].copy_from_slice(&x.to_le_bytes());
