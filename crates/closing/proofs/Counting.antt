@@ -14,6 +14,10 @@ module _ (stage stages : ℕ) where
   pub by-third : 3 ≤ stages → 1 ≤ stage → leb stage 3 ≡ earns_three stage stages
   by-third h k = rw (more-by-third stage stages h, le-leb 1 stage k)
 
+  -- .. one past the third does not ..
+  pub past-third : 3 ≤ stages → 3 < stage → false ≡ earns_three stage stages
+  past-third h m = sym (lt-leb stage 3 m) ∙ by-third h (omega arith)
+
   -- .. and what is before them does not
   pub before-all : 3 ≤ stages → stage < 1 → false ≡ earns_three stage stages
   before-all h k = rw (more-by-third stage stages h, lt-leb 1 stage k)
