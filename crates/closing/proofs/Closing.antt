@@ -4,6 +4,7 @@ use Prim.Native.Nat.{ℕ}
 use mathlib.Core.Path.{◌≡◌, refl, sym, ap, ◌∙◌}
 use mathlib.Core.Bool.{Bool, true, false, cond, not}
 use Rattle.std.specs.Prelude.{Result, Ok, Err}
+use Rattle.std.specs.Result.{MatchResult, IsOkAnd}
 use Rattle.refusals.specs.declared.Refusal.{Refusal}
 use Rattle.refusals.specs.Paper.{answer_by, itself}
 use Rattle.rules.specs.Refusals.{Answer, refused, given, and_then}
@@ -15,10 +16,15 @@ use Rattle.rules.specs.Entries.{Asked, Offered, asked_on, single_event, on_suppl
 use Rattle.rules.specs.Entries.{judge_total, close_total}
 use Rattle.rules.specs.Entries as rules
 use Rattle.rules.specs.Verdict as verdicts
+use Rattle.plans.specs.declared.SinglePlan.{SinglePlan}
 use Rattle.plans.specs.declared.Judged.{Judged}
-use Rattle.plans.specs.Paper.{verdict_paper, judged_by}
+use Rattle.plans.specs.Paper.{plan_paper, verdict_paper, judged_by}
+use Rattle.severity.specs.Paper.{record_paper}
+use Rattle.supply.specs.declared.Supply as declared-supply
+use Rattle.supply.specs.Paper.{supply_paper}
+use Rattle.closing.specs.declared.Offered as declared
 use Rattle.closing.specs.declared.Closed.{Closed}
-use Rattle.closing.specs.Paper.{judged_on, entered, closed_by}
+use Rattle.closing.specs.Paper.{offered_paper, judged_on, entered, closed_by}
 
 -- Which plan it was is no part of what a lot enters: what is entered on a plan by one paper is entered on it by any
 -- further one.
@@ -69,6 +75,29 @@ module _ {P A : Type 0} (paper : P → A) where
       → answer_by (closed_by paper) r
       ≡ and_then (answer_by (judged_by paper) judged) (λ k. on_supply s (closed_with s event k))
   taken-given s event judged r j e g stands h = rw g (rw stands at (entered-by s e j r h))
+
+-- what a lot judged on a single plan is taken as
+abbrev pub AsTaken : declared-supply.Supply → declared.Offered → Judged SinglePlan → Result (Closed SinglePlan) Refusal
+    → Type 0
+AsTaken old lot j r =
+    answer_by (closed_by plan_paper) r
+    ≡ on_supply (supply_paper old)
+    (closed_with (supply_paper old) (single_event (record_paper old.switching) (offered_paper lot))
+    (judged_by plan_paper j))
+
+-- What was taken tells how the lot was judged, whatever refuses one: ..
+module _ {J C E : Type 0} (Is : J → C → Type 0) where
+  -- .. a lot that was closed was judged, and is closed as it was judged ..
+  pub closed-of : (judged : Result J E) (a : Result C E) (x : C) → a ≡ Ok x
+      → MatchResult judged (λ j. IsOkAnd a (Is j)) (λ e. a ≡ Err e) → (j : J) × (judged ≡ Ok j) × Is j x
+  closed-of (Ok j) a x e h = (j, refl, rw e at h)
+  closed-of (Err d) a x e h = cc
+
+  -- .. and one that was refused was refused by that very value.
+  pub refused-of : (judged : Result J E) (a : Result C E) (d : E) → a ≡ Err d
+      → MatchResult judged (λ j. IsOkAnd a (Is j)) (λ e. a ≡ Err e) → judged ≡ Err d
+  refused-of (Ok j) a d e h = absurd (rw e at h)
+  refused-of (Err f) a d e h = cc
 
 -- a lot judged by its total and closed
 module _ (x : Answer (rules.Closed Plan)) (s : Supply) (o : Offered) (total : ℕ) (t : Bool)

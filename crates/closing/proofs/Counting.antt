@@ -7,6 +7,7 @@ use lib.Dec.{leb, eqb}
 use native.Mathlib.Omega.{arith}
 use borrow.Author.Tests.{le-leb, lt-leb}
 use Rattle.rules.specs.Severity.{add_three, score_zero, earns_three, staged_points}
+use Rattle.rules.proofs.Bounded.{by-le}
 use Rattle.rules.proofs.Points.{two-as-before, more-by-third}
 
 module _ (stage stages : ℕ) where
@@ -17,6 +18,11 @@ module _ (stage stages : ℕ) where
   -- .. and what is before them does not
   pub before-all : 3 ≤ stages → stage < 1 → false ≡ earns_three stage stages
   before-all h k = rw (more-by-third stage stages h, lt-leb 1 stage k)
+
+  -- so that of three or more stages one outside the first three does not
+  pub outside-third : 3 ≤ stages → (1 ≤ stage → 3 < stage) → false ≡ earns_three stage stages
+  outside-third h k =
+      by-le 1 stage (λ m. sym (lt-leb stage 3 (k m)) ∙ by-third h m) (before-all h)
 
   -- of fewer than three the first does
   pub of-two : stages < 3 → eqb stage 1 ≡ earns_three stage stages

@@ -2,9 +2,9 @@
 
 // How a lot closes: how its verdict counts, the event that it stands for and the record after; and a lot that is closed
 // by its total, at a bench without a book.
-ghost use Rattle.std.specs.Prelude.{◌≡◌, ◌&&◌, ltb};
+ghost use Rattle.std.specs.Prelude.{◌≡◌, ◌&&◌, ltb, Err};
+ghost use Rattle.std.specs.Result.{MatchResult, IsOkAnd};
 ghost use Rattle.refusals.specs.Paper.{answer_by, reason_by, itself};
-ghost use Rattle.rules.specs.Refusals.{and_then};
 ghost use Rattle.rules.specs.Codes.{counts_items};
 ghost use Rattle.rules.specs.Severity.{counted, sampled, single_points, earns_three, staged_points};
 ghost use Rattle.rules.specs.Entries.{asked_on, event_for, single_counts, single_event, on_supply, closed_with};
@@ -128,19 +128,21 @@ pub fn enter<P: Copy>(old: Supply, event: Event, judged: Judged<P>) -> Result<Cl
     })
 }
 
-// A lot that was judged on a single plan is taken into its record.
-pub fn take_single(
+// A lot that was judged on a single plan is taken into its record; what refused one, of whatever type, is handed on.
+pub fn take_single<E>(
     old: Supply,
     lot: Offered,
-    judged: Result<Judged<SinglePlan>, Refusal>,
-) -> Result<Closed<SinglePlan>, Refusal>
-    ensures { answer_by (closed_by plan_paper) result ≡ and_then (answer_by (judged_by plan_paper) judged)
-        (λ j. on_supply (supply_paper old) (closed_with (supply_paper old)
-        (single_event (record_paper old.switching) (offered_paper lot)) j)) }
+    judged: Result<Judged<SinglePlan>, E>,
+) -> Result<Result<Closed<SinglePlan>, Refusal>, E>
+    ensures { MatchResult judged
+        (λ j. IsOkAnd result (λ r. answer_by (closed_by plan_paper) r ≡ on_supply (supply_paper old)
+        (closed_with (supply_paper old) (single_event (record_paper old.switching) (offered_paper lot))
+        (judged_by plan_paper j))))
+        (λ e. result ≡ Err e) }
 {
     let judged = judged?;
     let event = single_event(old, lot, Origin::Sampled, judged.plan, judged.verdict);
-    enter(old, event, judged)
+    Ok(enter(old, event, judged))
 }
 
 // The lot as it is asked about, at the present severity.
@@ -189,6 +191,5 @@ pub fn close_total(old: Supply, lot: Offered, total: u32) -> Result<Closed<Singl
     if !supply::in_range(old) {
         return Err(Reason::UnknownForm.into());
     }
-    let judged = judge_total(asked_on(old, lot), total)?;
-    take_single(old, lot, Ok(judged))
+    take_single(old, lot, judge_total(asked_on(old, lot), total))?
 }

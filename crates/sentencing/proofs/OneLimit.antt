@@ -13,18 +13,18 @@ use Rattle.rules.specs.Entries.{Asked, judged_on, readings_plan, section_for, ju
 use Rattle.rules.proofs.Demands.Limits.{one-column}
 use Rattle.sentencing.specs.Paper.{one_of}
 
-module _ (judge : SidesPlan → Answer Verdict) where
-  on-verdict : (p : VariablesPlan) (v : Answer Verdict)
-      → and_then v (λ w. given (record { plan = p; verdict = w }))
-      ≡ one_of (and_then v (λ w. given (record { plan = sides_of p; verdict = w })))
-  on-verdict p (refused n k) = refl
-  on-verdict p (given w) = refl
+-- a verdict on a plan for one limit is that on its plan for two, but for the plan
+pub on-verdict : (p : VariablesPlan) (v : Answer Verdict)
+    → and_then v (λ w. given (record { plan = p; verdict = w }))
+    ≡ one_of (and_then v (λ w. given (record { plan = sides_of p; verdict = w })))
+on-verdict p (refused n k) = refl
+on-verdict p (given w) = refl
 
-  on-plan : (a : Answer VariablesPlan)
-      → and_then a (judged_on (λ p. judge (sides_of p)))
-      ≡ one_of (and_then (and_then a (λ p. given (sides_of p))) (judged_on judge))
-  on-plan (refused n k) = refl
-  on-plan (given p) = on-verdict p (judge (sides_of p))
+on-plan : (judge : SidesPlan → Answer Verdict) (a : Answer VariablesPlan)
+    → and_then a (judged_on (λ p. judge (sides_of p)))
+    ≡ one_of (and_then (and_then a (λ p. given (sides_of p))) (judged_on judge))
+on-plan judge (refused n k) = refl
+on-plan judge (given p) = on-verdict p (judge (sides_of p))
 
 -- a lot judged for one limit is the lot judged for two, but for its plan
 pub one-limit : (m : Spread) (upper : Bool) (q : Asked) (book : List ℕ) (limit : ℤ) (readings : List ℕ)

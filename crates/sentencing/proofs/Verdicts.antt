@@ -22,10 +22,12 @@ use Rattle.rules.specs.Entries.{curtailed_sample, staged_sample, readings_sample
 use Rattle.rules.specs.Entries.{judge_staged, judge_sequential, judge_limit, judge_sides}
 use Rattle.rules.proofs.Demands.Two.{single-plan-given, staged-plan-given}
 use Rattle.rules.proofs.Demands.Curtailed.{in-column, curtailed-plan-given}
-use Rattle.rules.proofs.GivenPlans.{readings-given, sides-given}
+use Rattle.rules.proofs.Demands.Limits.{one-column}
+use Rattle.rules.proofs.GivenPlans.{sides-given}
 use Rattle.rules.proofs.HeldPlans.{variables-could}
 use Rattle.choosing.specs.Paper.{section_if}
-use Rattle.sentencing.specs.Paper.{is_known}
+use Rattle.sentencing.specs.Paper.{is_known, one_of}
+use Rattle.sentencing.proofs.OneLimit.{on-verdict, one-limit}
 
 -- a plan without its letter
 unlettered : {P : Type 0} (q : Asked) (a : Answer P) (x : Answer (Lettered P)) → x ≡ lettered q a
@@ -105,7 +107,16 @@ module _ (q : Asked) (book sample : List ℕ) (a : Answer Verdict) where
   unfolding judge_sequential
   sequential-judged x e = judged _ _ _ (λ p h. refl) x.plan (unlettered q _ _ e) a
 
--- Readings, in the section of the method: for one limit, whose K stands on both sides, ..
+-- A plan for two limits that an entry gives passes the test of plans handed over.
+pub readings-sample : (q : Asked) (book sample : List ℕ) (m : Spread) (limits : Limits) (lower : ℕ) (p : SidesPlan)
+    → sides_plan (section_for m) q lower book ≡ given p
+    → readings_sample m limits p sample ≡ judge_readings m limits p sample
+unfolding readings_sample
+readings-sample q book sample m limits lower p h =
+    let r = sides-given q book m lower p h in
+    rw (variables-could (side_of true p) (r true), variables-could (side_of false p) (r false))
+
+-- Readings, in the section of the method: ..
 module _ (m : Spread) (q : Asked) (book readings : List ℕ) where
   section-is : (t : Bool) → t ≡ is_known m → section_if t ≡ section_for m
   section-is t e = ap section_if e ∙ on m
@@ -114,52 +125,58 @@ module _ (m : Spread) (q : Asked) (book readings : List ℕ) where
       on estimated = refl
       on (known sigma) = refl
 
-  pub limit-unplanned : (upper : Bool) (limit : ℤ) (n p : ℕ) (t : Bool) → t ≡ is_known m
-      → refused n p ≡ lettered q (readings_plan (section_if t) q book)
-      → refused n p ≡ judge_limit m upper q book limit readings
-  unfolding judge_limit
-  limit-unplanned upper limit n p t i e = unplanned _ _ n p (unlettered q _ _ (rw (section-is t i) at e))
+  -- .. on plans for two sides, ..
+  module _ (limits : Limits) (column : ℕ) where
+    two-unplanned : (n p : ℕ) → refused n p ≡ sides_plan (section_for m) q column book
+        → refused n p ≡ judge_sides m limits q column book readings
+    unfolding judge_sides
+    two-unplanned n p e = unplanned _ _ n p e
 
-  limit-sample : (limits : Limits) (p : VariablesPlan) → given p ≡ readings_plan (section_for m) q book
-      → readings_sample m limits (sides_of p) readings ≡ judge_readings m limits (sides_of p) readings
-  unfolding readings_sample
-  limit-sample limits p h = let r = variables-could p (readings-given q book m p (sym h)) in rw r
+    two-judged : (x : SidesPlan) → given x ≡ sides_plan (section_for m) q column book → (a : Answer Verdict)
+        → a ≡ readings_sample m limits x readings
+        → and_then a (λ v. given (record { plan = x; verdict = v })) ≡ judge_sides m limits q column book readings
+    unfolding judge_sides
+    two-judged x e a h =
+        judged _ (λ p. readings_sample m limits p readings) _
+        (λ p g. readings-sample q book readings m limits column p (sym g)) x e a h
 
-  pub limit-judged : (upper : Bool) (limit : ℤ) (x : Lettered VariablesPlan) (t : Bool) → t ≡ is_known m
-      → given x ≡ lettered q (readings_plan (section_if t) q book) → (sides : SidesPlan) → sides ≡ sides_of x.plan
-      → (a : Answer Verdict) → a ≡ readings_sample m (one upper limit) sides readings
-      → and_then a (λ v. given (record { plan = x.plan; verdict = v })) ≡ judge_limit m upper q book limit readings
-  unfolding judge_limit
-  limit-judged upper limit x t i e sides s a h =
-      judged _ (λ p. readings_sample m (one upper limit) (sides_of p) readings) _ (limit-sample (one upper limit))
-      x.plan (unlettered q _ _ (rw (section-is t i) at e)) a (rw s at h)
-
-  -- .. and for two
+  -- .. for two limits, ..
   pub sides-unplanned : (upper lower : ℤ) (column n p : ℕ) (t : Bool) → t ≡ is_known m
       → refused n p ≡ sides_plan (section_if t) q column book
       → refused n p ≡ judge_sides m (both upper lower) q column book readings
-  unfolding judge_sides
-  sides-unplanned upper lower column n p t i e = unplanned _ _ n p (rw (section-is t i) at e)
-
-  sides-sample : (limits : Limits) (column : ℕ) (p : SidesPlan) → given p ≡ sides_plan (section_for m) q column book
-      → readings_sample m limits p readings ≡ judge_readings m limits p readings
-  unfolding readings_sample
-  sides-sample limits column p h =
-      let r = sides-given q book m column p (sym h) in
-      rw (variables-could (side_of true p) (r true), variables-could (side_of false p) (r false))
+  sides-unplanned upper lower column n p t i e =
+      two-unplanned (both upper lower) column n p (rw (section-is t i) at e)
 
   pub sides-judged : (upper lower : ℤ) (column : ℕ) (x : SidesPlan) (t : Bool) → t ≡ is_known m
       → given x ≡ sides_plan (section_if t) q column book
       → (a : Answer Verdict) → a ≡ readings_sample m (both upper lower) x readings
       → and_then a (λ v. given (record { plan = x; verdict = v }))
       ≡ judge_sides m (both upper lower) q column book readings
-  unfolding judge_sides
   sides-judged upper lower column x t i e a h =
-      judged _ (λ p. readings_sample m (both upper lower) p readings) _ (sides-sample (both upper lower) column) x
-      (rw (section-is t i) at e) a h
+      two-judged (both upper lower) column x (rw (section-is t i) at e) a h
 
--- A plan for two limits that an entry gives passes the test of plans handed over.
-pub readings-sample : (q : Asked) (book sample : List ℕ) (m : Spread) (limits : Limits) (lower : ℕ) (p : SidesPlan)
-    → sides_plan (section_for m) q lower book ≡ given p
-    → readings_sample m limits p sample ≡ judge_readings m limits p sample
-readings-sample q book sample m limits lower p h = sides-sample m q book sample limits lower p (sym h)
+  -- .. and for one, which is judged as two are: under the same column on both sides.
+  same-column : (t : Bool) → t ≡ is_known m → (y : Answer (Lettered VariablesPlan))
+      → y ≡ lettered q (readings_plan (section_if t) q book)
+      → and_then (and_then y (λ z. given z.plan)) (λ p. given (sides_of p)) ≡ sides_plan (section_for m) q q.column book
+  same-column t i y e =
+      ap (λ (z : Answer VariablesPlan). and_then z (λ p. given (sides_of p)))
+      (unlettered q _ y (rw (section-is t i) at e))
+      ∙ sym (one-column (section_for m) q book)
+
+  pub limit-unplanned : (upper : Bool) (limit : ℤ) (n p : ℕ) (t : Bool) → t ≡ is_known m
+      → refused n p ≡ lettered q (readings_plan (section_if t) q book)
+      → refused n p ≡ judge_limit m upper q book limit readings
+  limit-unplanned upper limit n p t i e =
+      ap one_of (two-unplanned (one upper limit) q.column n p (same-column t i (refused n p) e))
+      ∙ sym (one-limit m upper q book limit readings)
+
+  pub limit-judged : (upper : Bool) (limit : ℤ) (x : Lettered VariablesPlan) (t : Bool) → t ≡ is_known m
+      → given x ≡ lettered q (readings_plan (section_if t) q book) → (sides : SidesPlan) → sides ≡ sides_of x.plan
+      → (a : Answer Verdict) → a ≡ readings_sample m (one upper limit) sides readings
+      → and_then a (λ v. given (record { plan = x.plan; verdict = v })) ≡ judge_limit m upper q book limit readings
+  limit-judged upper limit x t i e sides s a h =
+      on-verdict x.plan a
+      ∙ ap one_of
+      (two-judged (one upper limit) q.column (sides_of x.plan) (same-column t i (given x) e) a (rw s at h))
+      ∙ sym (one-limit m upper q book limit readings)

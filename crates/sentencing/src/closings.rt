@@ -39,7 +39,7 @@ pub fn close_single(
 {
     on_record(old, book)?;
     let judged = judge_single(closing::asked_on(old, lot), book, sample);
-    closing::take_single(old, lot, judged)
+    closing::take_single(old, lot, judged)?
 }
 
 // A lot closed from a curtailed sample.
@@ -54,7 +54,7 @@ pub fn close_curtailed(
 {
     on_record(old, book)?;
     let judged = judge_curtailed(closing::asked_on(old, lot), book, sample);
-    closing::take_single(old, lot, judged)
+    closing::take_single(old, lot, judged)?
 }
 
 // A lot closed from a staged sample.

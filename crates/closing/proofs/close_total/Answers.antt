@@ -1,30 +1,32 @@
 -- `closing::close_total` meets its contract.
 -- Assumes nothing.
-use mathlib.Core.Path.{◌≡◌, sym, ◌∙◌}
-use mathlib.Core.Bool.{true}
 use Rattle.std.proofs.lemmas.Result.{err_from_is_err_and}
-use Rattle.rules.specs.Supply.{supply_in_range}
-use Rattle.rules.specs.Entries.{close_total}
+use Rattle.refusals.specs.Paper.{reason_by}
+use Rattle.plans.specs.Paper.{plan_paper, judged_by}
 use Rattle.supply.specs.Paper.{supply_paper}
+use Rattle.closing.specs.Paper.{offered_paper}
+use Rattle.closing.proofs.Closing.{AsTaken, closed-of, refused-of, closed-total, closed-out}
 use Rattle.closing.proofs.close_total.Goals as goal
-use Rattle.closing.proofs.close_total.Goals.{Else-not-in_range}
-
-within : (c : Else-not-in_range) → supply_in_range (supply_paper c.args.old) ≡ true
-within c = sym c.in_range.ensures ∙ c.if-not-in_range.false
 
 pub returns-then-not-in_range : goal.returns-then-not-in_range
-unfolding close_total
-returns-then-not-in_range c = rw (c.into.ensures, ← c.in_range.ensures, c.if-not-in_range.true)
+returns-then-not-in_range c =
+    let a = c.args in
+    closed-out _ (supply_paper a.old) (offered_paper a.lot) a.total _ c.in_range.ensures c.if-not-in_range.true
+    (rw c.into.ensures)
 
-pub returns-in_err-judged : goal.returns-in_err-judged
-unfolding close_total
-returns-in_err-judged c =
+pub returns-in_err-take_single : goal.returns-in_err-take_single
+returns-in_err-take_single c =
+    let a = c.args in
     let p = err_from_is_err_and c.from_residual.result c.from_residual.ensures.1 in
-    let h = within (goal.at.returns-in_err-judged c).Else-not-in_range in
-    rw (p.1, p.2, h, ← c.asked_on.ensures, ← c.in_err-judged.ensures)
+    let h = refused-of (AsTaken a.old a.lot) c.judge_total.result _ _ c.in_err-take_single.was c.take_single.ensures in
+    closed-total _ (supply_paper a.old) (offered_paper a.lot) a.total _ c.in_range.ensures _
+    (reason_by (judged_by plan_paper) c.judge_total.result) c.if-not-in_range.false c.asked_on.ensures
+    c.judge_total.ensures (rw (p.1, p.2, h))
 
 pub returns : goal.returns
-unfolding close_total
 returns c =
-    let h = within (goal.at.returns c).Else-not-in_range in
-    rw (h, ← c.asked_on.ensures, ← c.in_ok-judged.ensures) (rw h at c.take_single.ensures)
+    let a = c.args in
+    let p = closed-of (AsTaken a.old a.lot) c.judge_total.result _ _ c.in_ok-take_single.was c.take_single.ensures in
+    closed-total _ (supply_paper a.old) (offered_paper a.lot) a.total _ c.in_range.ensures _
+    (reason_by (judged_by plan_paper) c.judge_total.result) c.if-not-in_range.false c.asked_on.ensures
+    c.judge_total.ensures (rw p.1 p.2)

@@ -1,13 +1,12 @@
 -- `sentencing::fractional::close_fractional` meets its contract.
 -- Assumes nothing.
-use mathlib.Core.Path.{◌∙◌}
+use mathlib.Core.Path.{refl}
 use Rattle.plans.specs.Paper.{fractional_paper}
-use Rattle.severity.specs.Paper.{event_paper}
+use Rattle.severity.specs.Paper.{origin_paper, event_paper}
 use Rattle.supply.specs.Paper.{supply_paper}
 use Rattle.closing.specs.Paper.{offered_paper, closed_by}
-use Rattle.closing.proofs.Closing.{entered-by}
 use Rattle.choosing.proofs.Supplies.{handed-on}
-use Rattle.sentencing.proofs.Sharing.{column-stands, closed-by-share}
+use Rattle.sentencing.proofs.Sharing.{column-stands, unclosed, closed}
 use Rattle.sentencing.proofs.fractional.close_fractional.Goals as goal
 
 pub origin_of-from-requires : goal.origin_of-from-requires
@@ -18,13 +17,12 @@ origin_of-from-requires c =
 pub returns-in_err-judged : goal.returns-in_err-judged
 returns-in_err-judged c =
     let a = c.args in
-    handed-on (closed_by fractional_paper) _ _ c.from_residual.ensures.1
-    ∙ closed-by-share (supply_paper a.old) (offered_paper a.lot) a.book.now a.sample.now _ c.in_err-judged.ensures
+    unclosed (supply_paper a.old) (offered_paper a.lot) a.book.now a.sample.now _ c.judge_fractional.ensures _ _
+    c.in_err-judged.was (handed-on (closed_by fractional_paper) _ _ c.from_residual.ensures.1)
 
 pub returns : goal.returns
 returns c =
     let a = c.args in
-    let e = entered-by fractional_paper (supply_paper a.old) (event_paper c.single_event-event.result)
-    c.in_ok-judged.judged c.enter.result c.enter.ensures in
-    rw (c.single_event-event.ensures, c.origin_of-from.ensures) at e
-    ∙ closed-by-share (supply_paper a.old) (offered_paper a.lot) a.book.now a.sample.now _ c.in_ok-judged.ensures
+    closed (supply_paper a.old) (offered_paper a.lot) a.book.now a.sample.now _ c.judge_fractional.ensures _
+    c.in_ok-judged.judged (origin_paper c.origin_of-from.result) (event_paper c.single_event-event.result)
+    c.enter.result c.in_ok-judged.was c.origin_of-from.ensures c.single_event-event.ensures c.enter.ensures refl
