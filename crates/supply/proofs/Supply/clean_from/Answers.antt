@@ -29,7 +29,8 @@ returns-in_default c =
     let q = no-run-made _ _ _ c.default.ensures in
     elim c.in_default.branch [
       | in_default-via-in-Fraction-default-default-eq0+else-has_fraction w ↦
-          clean-off _ _ _ _ _ _ w.in-Fraction-default-default-eq0.is _ w.has_fraction.ensures _ w.if-has_fraction.false q
+          let i = w.in-Fraction-default-default-eq0.is in
+          clean-off _ _ _ _ _ _ i _ w.has_fraction.ensures _ w.if-has_fraction.false q
       | in_default-via-in-Fraction+in_default w ↦ ends _ _ _ _ q (λ letter column e. search rules)
       | in_default-via-in_default w ↦ ends _ _ _ _ q (λ letter column e. search rules)
     ]
