@@ -128,7 +128,9 @@ fn right_at(kind: usize, e: &[u8], i: usize) -> bool
     ranges::fits(kind, i, x) && keeping::keeps_rule(kind, e, i, x)
 }
 
-// The entry that the stretch begins with: its end, or the first of its numbers that is missing or not right.
+// The entry that the stretch begins with: its end, or the first of its numbers that is missing or not right. Each caller
+// hands on its kind as a constant, so that the loop and the tables are compiled for that kind alone.
+#[inline(always)]
 pub fn entry_numbers(kind: usize, e: &[u8]) -> Result<usize, Fault>
     ensures { walk_paper result ≡ entry_read kind (numbers_of e.now) }
 {

@@ -9,7 +9,7 @@ use native.Mathlib.Nat.{mul-div_cancel}
 use native.Mathlib.Numerals.{add-one}
 use borrow.Author.Tests.{le-leb}
 use lib.ListN.{length, get_or, take, drop, length-drop, length-take, length-append, drop_of_length-le}
-use lib.ListN.{take-append-drop, get_or-eq_default}
+use lib.ListN.{take-append-drop, get_or-eq_default, set}
 use lib.Seq.{sets, length-sets, drop-cons}
 use borrow.Rule.Slice.PartMut.{put_mid}
 use Rattle.std.specs.Int.{to_le_bytes}
@@ -202,6 +202,22 @@ put-small a k xs ys l h each i =
 pub count-bytes : (n : ℕ) → n < 65536 → to_le_bytes w16 n ≡ number_bytes (n ∷ [])
 unfolding number_bytes
 count-bytes n h = let e : n / 256 % 256 ≡ n / 256 = omega arith in rw e
+
+-- bytes copied one by one from a place on
+module _ (bytes start : List ℕ) (at : ℕ) where
+  pub copy-first : sets start (at + 0) (drop 0 bytes) ≡ sets start at bytes
+  copy-first = let z : at + 0 ≡ at = omega arith in ap (λ (i : ℕ). sets start i bytes) z
+
+  pub copy-next : (out : List ℕ) (i : ℕ) → i < length bytes
+      → sets out (at + i) (drop i bytes) ≡ sets start at bytes
+      → sets (set out (at + i) (get_or bytes i 0)) (at + (i + 1)) (drop (i + 1) bytes) ≡ sets start at bytes
+  copy-next out i h e =
+      let z : at + (i + 1) ≡ suc (at + i) = omega arith in
+      rw (z, add-one i) (sym (ap (sets out (at + i)) (drop-cons bytes i 0 h)) ∙ e)
+
+  pub copy-done : (out : List ℕ) (i : ℕ) → length bytes ≤ i → sets out (at + i) (drop i bytes) ≡ sets start at bytes
+      → out ≡ sets start at bytes
+  copy-done out i h e = sym (ap (sets out (at + i)) (drop_of_length-le bytes h)) ∙ e
 
 -- stores leave the room as it was
 pub still-layable : {k : Kind} {rows : Rows} {at : ℕ} {before after : List ℕ} → Layable k rows at before → (i : ℕ)

@@ -34,6 +34,17 @@ struct Count {
     numbers: usize,
 }
 
+// Bytes, put one by one from a byte on. A copy by the library is a call of C's memmove, which whoever links the archive
+// would owe.
+fn copy_bytes(bytes: &[u8], out: &mut [u8], at: usize)
+    requires { at + length bytes.now ≤ length out.old }
+    ensures { out.new ≡ sets out.old at bytes.now }
+{
+    for i in 0..bytes.len() {
+        out[at + i] = bytes[i];
+    }
+}
+
 // A lent list: the rows of a section's entries, one behind the other.
 #[derive(Clone, Copy)]
 struct LentList<'a> {
@@ -67,8 +78,7 @@ impl LentList<'_> {
             × (out.new ≡ sets out.old (2 * at) (number_bytes (laid (kind_of self.entry) (rows_of self.entry)))) }
     {
         if self.kind != STAGED {
-            let from = 2 * at;
-            out[from..from + self.rows.len()].copy_from_slice(self.rows);
+            copy_bytes(self.rows, out, 2 * at);
             return at + self.rows.len() / 2;
         }
         let mut to = at;

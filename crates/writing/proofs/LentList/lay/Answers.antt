@@ -1,9 +1,11 @@
 -- `writing::LentList::lay` meets its contract.
 -- Assumes nothing.
-use Prim.Native.Nat.{◌+◌, ◌-◌, ◌*◌, ◌≤◌}
-use mathlib.Core.Path.{◌≡◌, sym, ap, ◌∙◌}
+use Prim.Native.Nat.{◌+◌, ◌*◌, ◌≤◌}
+use Prim.Native.Nat.{ℕ}
+use mathlib.Core.Path.{◌≡◌, refl, sym, ap, ◌∙◌}
+use mathlib.Core.List.{List}
 use native.Mathlib.Omega.{arith}
-use lib.ListN.{length}
+use lib.ListN.{length, get_or}
 use lib.Seq.{sets}
 use Rattle.rules.specs.Writing.{laid}
 use Rattle.rules.proofs.Numbers.{numbers-low}
@@ -35,15 +37,16 @@ long d =
 room : (d : Then-self-ne-STAGED) → 2 * d.args.at + length d.args.self.rows.now ≤ length d.args.out.now
 room d = omega (arith, long d, d.requires.room, numbers-low d.args.out.now)
 
-pub overflow_mul-from : goal.overflow_mul-from
-overflow_mul-from c = omega (arith, room (goal.at.overflow_mul-from c).Then-self-ne-STAGED)
+pub overflow_mul-at : goal.overflow_mul-at
+overflow_mul-at c = omega (arith, room (goal.at.overflow_mul-at c).Then-self-ne-STAGED)
 
-pub overflow_add-from : goal.overflow_add-from
-overflow_add-from c = omega (arith, room (goal.at.overflow_add-from c).Then-self-ne-STAGED)
+pub copy_bytes-requires : goal.copy_bytes-requires
+copy_bytes-requires c = room (goal.at.copy_bytes-requires c).Then-self-ne-STAGED
 
-pub slice_bounds-copy_from_slice-end : goal.slice_bounds-copy_from_slice-end
-slice_bounds-copy_from_slice-end c =
-    omega (arith, room (goal.at.slice_bounds-copy_from_slice-end c).Then-self-ne-STAGED)
+pub overflow_add-result : goal.overflow_add-result
+overflow_add-result c =
+    let d = (goal.at.overflow_add-result c).Then-self-ne-STAGED in
+    omega (arith, long d, d.requires.room, numbers-low d.args.out.now)
 
 pub returns-then-self-ne-STAGED : goal.returns-then-self-ne-STAGED
 returns-then-self-ne-STAGED c =
@@ -53,15 +56,15 @@ returns-then-self-ne-STAGED c =
     let at = 2 * c.args.at in
     let out = c.args.out.now in
     let d = (goal.at.returns-then-self-ne-STAGED c).Then-self-ne-STAGED in
-    let copied = c.copy_from_slice.ensures.after in
-    let whole : length c.copy_from_slice.new.self ≡ at + length rows - at = omega (arith, ap length copied) in
-    let fits : at + (at + length rows - at) ≤ length out = omega (arith, room d) in
-    let small = put-small at _ out _ whole fits (λ i. omega (arith, c.type_inv.out i)) in
+    let copied = put-sets at (length rows) out rows refl (room d) ∙ sym c.copy_bytes.ensures in
+    let small =
+    put-small at (length rows) out rows refl (room d)
+    (λ i. omega (arith, ap (λ (l : List ℕ). get_or l i 0) copied, c.type_inv.out i)) in
     let bytes =
     plain-bytes (any-rowed kind) (λ m. plain-size m kind other) (λ m i. plain-place m i kind other)
-    rows c.requires.right (rw copied at small) in (
+    rows c.requires.right small in (
       omega (arith, long d),
-      put-sets at _ out _ whole fits ∙ ap (sets out at) (copied ∙ sym bytes.0),
+      c.copy_bytes.ensures ∙ ap (sets out at) (sym bytes.0),
     )
 
 -- the row that was cut off
