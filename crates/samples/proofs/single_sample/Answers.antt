@@ -26,7 +26,7 @@ returns c =
     let a = c.args in
     let v = c.verdict_after.ensures in
     let accepted = ap (λ (x : Verdict). x.accepted) v in
-    verdict-of (plan_paper a.plan) _ (search accepted) (ap (λ (x : Verdict). x.used) v) (ap (λ (x : Verdict). x.total) v)
-    (ap (λ (x : Verdict). x.stage) v) (ap (λ (x : Verdict). x.stages) v)
+    verdict-of (plan_paper a.plan) _ (search accepted) (ap (λ (x : Verdict). x.used) v)
+    (ap (λ (x : Verdict). x.total) v) (ap (λ (x : Verdict). x.stage) v) (ap (λ (x : Verdict). x.stages) v)
     ∙ single-judged a.column (plan_paper a.plan) a.sample.now (column-legal _ c.in_ok-check_column.ensures)
     c.if-sample-k.false c.in_ok-total.ensures.taken
