@@ -13,6 +13,7 @@ use Rattle.std.proofs.lemmas.List.{drop-drop}
 use Rattle.rules.specs.Refusals.{Answer, refused, given, and_then, wrong_length, illegal_item}
 use Rattle.rules.specs.Numbers.{numbers_of}
 use Rattle.rules.specs.Single.{Plan, single_verdict}
+use Rattle.rules.specs.Verdict.{Verdict}
 use Rattle.rules.specs.Entries.{single_sample}
 use Rattle.rules.specs.Codes.{illegal}
 use Rattle.rules.specs.Staged.{Taken, missing, over, taken, take_items}
@@ -85,6 +86,13 @@ take-given column k total from t items =
     go (taken s rest) (takes h legal sum is) e =
         let same : s ≡ t = cc in
         rw (same, drop-drop)
+
+-- the verdict on a single sample, by its parts
+pub verdict-of : (p : Plan) (t : ℕ) {v : Verdict} → v.accepted ≡ leb t p.ac → v.used ≡ p.n → v.total ≡ t
+    → v.stage ≡ 1 → v.stages ≡ 1 → given v ≡ given (single_verdict p t)
+verdict-of p t accepted used total stage stages =
+    λ i. given
+    (record { accepted = accepted i; used = used i; total = total i; stage = stage i; stages = stages i })
 
 -- a single sample of the right length is judged as its items are taken
 pub single-judged : (column : ℕ) (p : Plan) (s : List ℕ) → column ≤ 25 → length s ≡ 2 * p.n → {answer : Answer ℕ}

@@ -1,5 +1,5 @@
--- `terminal::planning::put_numbers` meets its contract. The invariant: i numbers stand in the part, and with the rest of
--- them stored it is the part with all of them stored.
+-- `terminal::planning::put_numbers` meets its contract. The invariant: i numbers stand in the part, and with the others
+-- stored it is the part with all of them stored.
 -- Assumes nothing.
 use mathlib.Core.Path.{◌∙◌}
 use native.Mathlib.Omega.{arith}
