@@ -9,9 +9,13 @@ use lib.ListN.{length, length-append}
 use lib.Dec.{leb}
 use borrow.Author.Tests.{lt-ltb, le-ltb, le-leb, lt-leb}
 use Rattle.std.proofs.Common.{Option, Some, None}
-use Rattle.rules.specs.Feeding.{Begun, so_far, too_long, longest_line, one_more}
+use Rattle.std.proofs.lemmas.List.{nil_from_length}
+use Rattle.rules.specs.History.{Work}
+use Rattle.rules.specs.Log.{split_at, space, line_of}
+use Rattle.rules.specs.Feeding.{Begun, so_far, too_long, longest_line, one_more, line_begun}
 use Rattle.rules.proofs.Bounded.{by-le}
 use Rattle.rules.proofs.Feeding.{extended}
+use Rattle.rules.proofs.LineForms.{long-unknown}
 use Rattle.lottexts.specs.declared.text.Text.{Text}
 use Rattle.lottexts.specs.Texts.{text_of}
 use Rattle.lottexts.proofs.Texts.{text-length}
@@ -72,3 +76,15 @@ grown-begun (Some line) bytes =
     kept : begun_by (text_of line) ≡ so_far (text_of line)
     kept = rw (le-leb (length (text_of line)) longest_line (omega (arith, line.fits, text-length line))) refl
 grown-begun None bytes = sym (extended-long bytes)
+
+-- bytes with nothing before them are all of the line; a line that is too long says nothing
+pub alone-with : (w : Work) (begun : Text longest_line) (bytes : List ℕ) → length (text_of begun) ≡ 0
+    → line_of w (split_at space bytes) ≡ line_begun w (grown (begun_paper (Some begun)) bytes)
+alone-with w begun bytes z =
+    rw (nil_from_length _ z) (go (length {A = ℕ} [] + length bytes) (omega arith))
+  where
+    go : (n : ℕ) → n ≡ length bytes
+        → line_of w (split_at space bytes) ≡ line_begun w (cond (leb n longest_line) (so_far bytes) too_long)
+    go n e =
+        by-le n longest_line (λ h. simp (le-leb n longest_line h))
+        (λ h. simp (lt-leb n longest_line h) (long-unknown w bytes (omega (arith, e))))

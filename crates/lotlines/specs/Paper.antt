@@ -35,6 +35,10 @@ grown too_long bytes = too_long
 abbrev pub held_paper : State → Held
 held_paper s = holding (supply_paper s.supply) s.line (begun_paper s.begun)
 
+-- .. and with more bytes
+abbrev pub held_with : State → List ℕ → Held
+held_with s bytes = holding (supply_paper s.supply) s.line (grown (begun_paper s.begun) bytes)
+
 abbrev pub Starts : Work → State → Type 0
 Starts w r = held_paper r ≡ starting w
 

@@ -11,7 +11,7 @@ ghost use Rattle.supply.specs.Paper.{supply_paper};
 ghost use Rattle.closing.specs.Paper.{offered_paper};
 ghost use Rattle.lotforms.specs.Reading.{line_paper};
 ghost use Rattle.lottexts.specs.Texts.{text_of};
-ghost use Rattle.lotlines.specs.Paper.{logged_paper, logged_on, grown, begun_paper, held_paper};
+ghost use Rattle.lotlines.specs.Paper.{logged_paper, logged_on, grown, begun_paper, held_paper, held_with};
 ghost use Rattle.lotlines.specs.Paper.{Starts, Feeds};
 
 use closing::Offered;
@@ -144,6 +144,31 @@ fn line_begun(work: Work, state: &State) -> Option<Line>
     lotforms::line_of(work.resubmission, line.as_slice())
 }
 
+// What the line says that ends with these bytes. Where nothing was begun before them they are all of it, and are read
+// where they stand.
+fn line_with(work: Work, state: &State, bytes: &[u8]) -> Option<Line>
+    ensures { line_paper result ≡ line_begun (work_paper work) (grown (begun_paper state.now.begun) bytes.now) }
+{
+    let begun = state.begun.as_ref()?;
+    if begun.as_slice().is_empty() {
+        return lotforms::line_of(work.resubmission, bytes);
+    }
+    let line = grow(state.begun, bytes)?;
+    lotforms::line_of(work.resubmission, line.as_slice())
+}
+
+// The unfinished line is finished with these bytes.
+fn end_with(work: Work, state: &State, bytes: &[u8]) -> Logged
+    ensures { logged_paper result ≡ ended (work_paper work) (held_with state.now bytes.now) }
+{
+    log_as(
+        work,
+        state.supply,
+        state.line,
+        line_with(work, state, bytes),
+    )
+}
+
 // The unfinished line is finished.
 fn end_line(work: Work, state: &State) -> Logged
     ensures { logged_paper result ≡ ended (work_paper work) (held_paper state.now) }
@@ -157,22 +182,21 @@ pub fn feed(work: Work, state: State, piece: &[u8]) -> Fed
 {
     let bytes = lotforms::up_to(b'\n', piece);
     let taken = bytes.len();
-    let held = State {
-        begun: grow(state.begun, bytes),
-        ..state
-    };
     if taken == piece.len() {
         return Fed {
-            state: held,
+            state: State {
+                begun: grow(state.begun, bytes),
+                ..state
+            },
             taken,
             text: Text::new(),
         };
     }
-    let logged = end_line(work, &held);
+    let logged = end_with(work, &state, bytes);
     Fed {
         state: State {
             supply: logged.supply,
-            line: held.line.saturating_add(1),
+            line: state.line.saturating_add(1),
             begun: Some(Text::new()),
         },
         taken: taken + 1,

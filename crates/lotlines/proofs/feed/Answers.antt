@@ -1,5 +1,5 @@
 -- `lotlines::feed` meets its contract. Assumes nothing.
-use Rattle.lotlines.proofs.Feeding.{feed-goes-on, feed-ends}
+use Rattle.lotlines.proofs.Feeding.{feed-goes-on, feed-ends-with}
 use Rattle.lotlines.proofs.feed.Goals as goal
 
 pub returns-then-taken-piece : goal.returns-then-taken-piece
@@ -8,5 +8,5 @@ returns-then-taken-piece c =
 
 pub returns : goal.returns
 returns c =
-    feed-ends _ _ _ _ c.up_to-bytes.ensures _ c.grow.ensures c.if-taken-piece.false _ _ _ c.end_line-logged.ensures
+    feed-ends-with _ _ _ _ c.up_to-bytes.ensures c.if-taken-piece.false _ _ _ c.end_with-logged.ensures
     c.saturating_add.ensures c.new-2.ensures
