@@ -22,13 +22,15 @@ use refusals::{Reason, Refusal};
 use severity::Work;
 use supply::Supply;
 
-// What a line leaves: the record, and what it printed.
+// What a line leaves: the record, and what it printed. The functions that make it are compiled into the one that feeds a
+// piece: a text is not handed from each to the next.
 #[derive(Clone, Copy)]
 struct Logged {
     supply: Supply,
     text: Text<LINE>,
 }
 
+#[inline(always)]
 fn log_lot(supply: Supply, line: u64, lot: Offered, total: u32) -> Result<Logged, Refusal>
     ensures { logged_on line (supply_paper supply) (answer_by logged_paper result)
         ≡ logged_lot line (supply_paper supply) (close_total (supply_paper supply) (offered_paper lot) total) }
@@ -51,6 +53,7 @@ fn log_lot(supply: Supply, line: u64, lot: Offered, total: u32) -> Result<Logged
 
 // What a line leaves that is not refused.
 #[tactic(auto, unfolding(rules::specs::Log::logged_as))]
+#[inline(always)]
 fn log_accepted(
     work: Work,
     supply: Supply,
@@ -88,6 +91,7 @@ fn log_accepted(
     }
 }
 
+#[inline(always)]
 fn log_as(work: Work, supply: Supply, line: u64, said: Option<Line>) -> Logged
     ensures { logged_paper result ≡ logged_as (work_paper work) line (supply_paper supply) (line_paper said) }
 {
@@ -146,6 +150,7 @@ fn line_begun(work: Work, state: &State) -> Option<Line>
 
 // What the line says that ends with these bytes. Where nothing was begun before them they are all of it, and are read
 // where they stand.
+#[inline(always)]
 fn line_with(work: Work, state: &State, bytes: &[u8]) -> Option<Line>
     ensures { line_paper result ≡ line_begun (work_paper work) (grown (begun_paper state.now.begun) bytes.now) }
 {
@@ -158,6 +163,7 @@ fn line_with(work: Work, state: &State, bytes: &[u8]) -> Option<Line>
 }
 
 // The unfinished line is finished with these bytes.
+#[inline(always)]
 fn end_with(work: Work, state: &State, bytes: &[u8]) -> Logged
     ensures { logged_paper result ≡ ended (work_paper work) (held_with state.now bytes.now) }
 {

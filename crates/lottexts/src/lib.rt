@@ -28,6 +28,7 @@ fn name(names: &[u8], code: u8) -> u8
     names.get(usize::from(code)).copied().unwrap_or(0)
 }
 
+// Each line is compiled where it is asked for, so that it is not copied on its way out.
 // Each asks for the room that it takes: the amounts differ, so that no type can say it.
 fn push_number<I: Integer>(text: &mut Text<LINE>, n: I)
     requires { length (text_of text.old) + I.MAX_STR_LEN ≤ line_room }
@@ -40,6 +41,7 @@ fn push_number<I: Integer>(text: &mut Text<LINE>, n: I)
 
 // n, and "a W straight after n on a cut line".
 #[tactic(auto, using(crate::proofs::Printing::texts))]
+#[inline(always)]
 fn push_size(text: &mut Text<LINE>, plan: SinglePlan)
     requires { length (text_of text.old) + 6 ≤ line_room }
     ensures bytes { text_of text.new ≡ text_of text.old ++ size_text (plan_paper plan) }
@@ -53,6 +55,7 @@ fn push_size(text: &mut Text<LINE>, plan: SinglePlan)
 
 // The last fields of a line: severity after, score after.
 #[tactic(auto, using(crate::proofs::Printing::texts))]
+#[inline(always)]
 fn push_after(text: &mut Text<LINE>, severity: u8, score: u8)
     requires { length (text_of text.old) + 6 ≤ line_room }
     ensures { text_of text.new ≡ text_of text.old ++ after_text severity score }
@@ -78,6 +81,7 @@ pub fn header() -> Text<LINE>
 }
 
 #[tactic(auto, using(crate::proofs::Printing::texts))]
+#[inline(always)]
 pub fn refused(line: u64, number: u8) -> Text<LINE>
     ensures { text_of result ≡ refused_line line number }
 {
@@ -91,6 +95,7 @@ pub fn refused(line: u64, number: u8) -> Text<LINE>
 
 // "An accepted order prints its line number, "order", severity and score after."
 #[tactic(auto, using(crate::proofs::Printing::texts))]
+#[inline(always)]
 pub fn order(line: u64, severity: u8, score: u8) -> Text<LINE>
     ensures { text_of result ≡ order_printed line severity score }
 {
@@ -102,6 +107,7 @@ pub fn order(line: u64, severity: u8, score: u8) -> Text<LINE>
 }
 
 // "line, severity used (N, T, R), letter, size, Ac, verdict, severity after (N, T, R, or X stopped), score after"
+#[inline(always)]
 pub fn lot(
     line: u64,
     used: u8,
