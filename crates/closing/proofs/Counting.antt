@@ -19,7 +19,11 @@ module _ (stage stages : ℕ) where
   pub before-all : 3 ≤ stages → stage < 1 → false ≡ earns_three stage stages
   before-all h k = rw (more-by-third stage stages h, lt-leb 1 stage k)
 
-  -- so that of three or more stages one outside the first three does not
+  -- so that of three or more stages one of the first three does ..
+  pub within-third : 3 ≤ stages → 1 ≤ stage → stage ≤ 3 → true ≡ earns_three stage stages
+  within-third h k m = sym (le-leb stage 3 m) ∙ by-third h k
+
+  -- .. and one outside the first three does not
   pub outside-third : 3 ≤ stages → (1 ≤ stage → 3 < stage) → false ≡ earns_three stage stages
   outside-third h k =
       by-le 1 stage (λ m. sym (lt-leb stage 3 (k m)) ∙ by-third h m) (before-all h)
