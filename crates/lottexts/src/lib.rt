@@ -28,7 +28,6 @@ fn name(names: &[u8], code: u8) -> u8
     names.get(usize::from(code)).copied().unwrap_or(0)
 }
 
-// Each line is compiled where it is asked for, so that it is not copied on its way out.
 // Each asks for the room that it takes: the amounts differ, so that no type can say it.
 fn push_number<I: Integer>(text: &mut Text<LINE>, n: I)
     requires { length (text_of text.old) + I.MAX_STR_LEN ≤ line_room }
@@ -39,6 +38,7 @@ fn push_number<I: Integer>(text: &mut Text<LINE>, n: I)
     text.extend(digits.format(n).as_bytes());
 }
 
+// What makes a line is compiled where the line is asked for (`inline(always)`), so that it is not copied on its way out.
 // n, and "a W straight after n on a cut line".
 #[tactic(auto, using(crate::proofs::Printing::texts))]
 #[inline(always)]
