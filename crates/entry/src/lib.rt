@@ -128,10 +128,9 @@ fn right_at(kind: usize, e: &[u8], i: usize) -> bool
     ranges::fits(kind, i, x) && keeping::keeps_rule(kind, e, i, x)
 }
 
-// The entry that the stretch begins with: its end, or the first of its numbers that is missing or not right. Each caller
-// hands on its kind as a constant, so that the loop and the tables are compiled for that kind alone.
+// The numbers of the entry that the stretch begins with, one by one.
 #[inline(always)]
-pub fn entry_numbers(kind: usize, e: &[u8]) -> Result<usize, Fault>
+fn numbers_right(kind: usize, e: &[u8]) -> Result<usize, Fault>
     ensures { walk_paper result ≡ entry_read kind (numbers_of e.now) }
 {
     let size = size_at(kind, e);
@@ -145,6 +144,21 @@ pub fn entry_numbers(kind: usize, e: &[u8]) -> Result<usize, Fault>
         }
     }
     Ok(size)
+}
+
+// The entry that the stretch begins with: its end, or the first of its numbers that is missing or not right.
+pub fn entry_numbers(kind: usize, e: &[u8]) -> Result<usize, Fault>
+    ensures { walk_paper result ≡ entry_read kind (numbers_of e.now) }
+{
+    numbers_right(kind, e)
+}
+
+// The same of a sequential entry, whose loop the compiler makes for it alone only where it is told to.
+#[inline(always)]
+pub fn sequential_numbers(e: &[u8]) -> Result<usize, Fault>
+    ensures { walk_paper result ≡ entry_read 2 (numbers_of e.now) }
+{
+    numbers_right(SEQUENTIAL, e)
 }
 
 // Does the key of the entry that e begins with come after the key that `before` begins with?
@@ -188,7 +202,7 @@ pub fn walk_entry(kind: usize, before: &[u8], e: &[u8]) -> Result<usize, Fault>
     match kind {
         REDUCED => entry_numbers(REDUCED, e),
         STAGED => entry_numbers(STAGED, e),
-        SEQUENTIAL => entry_numbers(SEQUENTIAL, e),
+        SEQUENTIAL => sequential_numbers(e),
         _ => entry_numbers(VARIABLES, e),
     }
 }

@@ -118,7 +118,7 @@ fn walk_numbers(kind: usize, row: &[u8]) -> Option<usize>
     match kind {
         REDUCED => entry::entry_numbers(REDUCED, row).ok(),
         STAGED => walk_staged(row),
-        SEQUENTIAL => entry::entry_numbers(SEQUENTIAL, row).ok(),
+        SEQUENTIAL => entry::sequential_numbers(row).ok(),
         _ => entry::entry_numbers(VARIABLES, row).ok(),
     }
 }

@@ -16,7 +16,7 @@ returns-in-0 c =
 pub returns-in-2 : goal.returns-in-2
 returns-in-2 c =
     walk-as c.args.kind 2 (numbers_of c.args.row.now) (ap kind_at c.in-2.is)
-    _ (λ e. omega arith) c.ok-in-2.ensures.value c.entry_numbers-in-2.ensures c.requires
+    _ (λ e. omega arith) c.ok-in-2.ensures.value c.sequential_numbers.ensures c.requires
 
 pub returns-in_default : goal.returns-in_default
 returns-in_default c =

@@ -1,10 +1,10 @@
--- `entry::entry_numbers` meets its contract.
+-- `entry::numbers_right` meets its contract.
 -- Assumes nothing.
 use mathlib.Core.Path.{◌≡◌, sym, ap, ◌∙◌}
 use native.Mathlib.Omega.{arith}
 use Rattle.rules.specs.Book.{ends}
 use Rattle.rules.proofs.Steps.{from-done, from-short, from-wrong, from-right}
-use Rattle.entry.proofs.entry_numbers.Goals as goal
+use Rattle.entry.proofs.numbers_right.Goals as goal
 
 pub returns-then-whole-i : goal.returns-then-whole-i
 returns-then-whole-i c =
