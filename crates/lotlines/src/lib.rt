@@ -22,8 +22,8 @@ use refusals::{Reason, Refusal};
 use severity::Work;
 use supply::Supply;
 
-// What a line leaves: the record, and what it printed. What makes it is compiled into `feed` (`inline(always)`), so that
-// a text is not handed from each function to the next.
+// What a line leaves: the record, and what it printed. What makes it is compiled into `feed` (`inline(always)`): a text
+// is not handed from each function to the next.
 #[derive(Clone, Copy)]
 struct Logged {
     supply: Supply,

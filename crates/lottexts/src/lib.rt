@@ -38,7 +38,7 @@ fn push_number<I: Integer>(text: &mut Text<LINE>, n: I)
     text.extend(digits.format(n).as_bytes());
 }
 
-// What makes a line is compiled where the line is asked for (`inline(always)`), so that it is not copied on its way out.
+// What makes a line is compiled where the line is asked for (`inline(always)`): it is not copied on its way out.
 // n, and "a W straight after n on a cut line".
 #[tactic(auto, using(crate::proofs::Printing::texts))]
 #[inline(always)]
